@@ -1,0 +1,137 @@
+-- Laws of `count` and `firstFrom`.
+use Prim.Native.Nat.{ℕ, zero, suc, _+_, _≤_, _<_}
+use native.Mathlib.Nat.{not-suc-le-zero}
+use native.Mathlib.Decide.{ℕ-discrete, decLt, le-ind}
+use native.Mathlib.Omega.{arith}
+use mathlib.Core.Path.{_≡_, refl}
+use mathlib.Core.Bool.{Bool, true, false}
+use lib.Dec.{T}
+use Rattle.theory.specs.Counting.{bit, count, firstFrom}
+
+-- ---- count
+
+-- a test counts for one at most
+bit-le : (b : Bool) → bit b ≤ 1
+bit-le true = omega arith
+bit-le false = omega arith
+
+-- a test that passes counts for one
+bit-passes : (b : Bool) → T b → bit b ≡ 1
+bit-passes true t = refl
+bit-passes false t = absurd t
+
+-- a test that counts for something passes
+passes-bit : (b : Bool) → 0 < bit b → T b
+passes-bit true l = tt
+passes-bit false l = absurd (not-suc-le-zero l)
+
+-- no more pass than there are
+pub count-le : (test : ℕ → Bool) (n : ℕ) → count test n ≤ n
+unfolding count
+count-le test zero = omega arith
+count-le test (suc n) = omega (arith, count-le test n, bit-le (test n))
+
+-- the count up to a greater number is no less
+pub count-monotone : (test : ℕ → Bool) (m n : ℕ) → m ≤ n → count test m ≤ count test n
+unfolding count
+count-monotone test m n = le-ind (λ k. count test m ≤ count test k) (omega arith) (λ k _ ih. omega arith) n
+
+-- a number that passes is counted: the count grows past it
+pub count-grows : (test : ℕ → Bool) (m n : ℕ) → m < n → T (test m) → count test m < count test n
+unfolding count
+count-grows test m n l t =
+    let past : count test m + bit (test m) ≤ count test n = count-monotone test (suc m) n l in
+    omega (arith, bit-passes (test m) t)
+
+-- numbers that pass have different counts
+pub count-injective : (test : ℕ → Bool) (m n : ℕ) → T (test m) → T (test n) → count test m ≡ count test n → m ≡ n
+count-injective test m n s t e = go (decLt m n) (decLt n m)
+  where
+    go : Dec (m < n) → Dec (n < m) → m ≡ n
+    go (yes l) _ = absurd (omega (arith, count-grows test m n l s))
+    go (no k) (yes l) = absurd (omega (arith, count-grows test n m l t))
+    go (no k) (no l) = omega arith
+
+-- every number below the whole count is the count before some number that passes
+pub count-hit : (test : ℕ → Bool) (n y : ℕ) → y < count test n → (i : ℕ) × (i < n) × T (test i) × (count test i ≡ y)
+unfolding count
+count-hit test zero y l = absurd (not-suc-le-zero l)
+count-hit test (suc n) y l = go (decLt y (count test n)) (count-hit test n y)
+  where
+    wider : (i : ℕ) × (i < n) × T (test i) × (count test i ≡ y)
+        → (i : ℕ) × (i < suc n) × T (test i) × (count test i ≡ y)
+    wider (i, h, t, e) = (i, omega arith, t, e)
+
+    go : Dec (y < count test n) → (y < count test n → (i : ℕ) × (i < n) × T (test i) × (count test i ≡ y))
+        → (i : ℕ) × (i < suc n) × T (test i) × (count test i ≡ y)
+    go (yes k) earlier = wider (earlier k)
+    go (no k) earlier =
+        (n, omega arith, passes-bit (test n) (omega arith), omega (arith, bit-le (test n)))
+
+-- the count depends only on the tests below
+pub count-cong : (f g : ℕ → Bool) (n : ℕ) → ((i : ℕ) → i < n → f i ≡ g i) → count f n ≡ count g n
+unfolding count
+count-cong f g zero e = refl
+count-cong f g (suc n) e = rw (count-cong f g n (λ i l. e i (omega arith)), e n (omega arith))
+
+-- ---- firstFrom
+
+-- v is the first of the n numbers from i on that passes, or i + n
+record First (test : ℕ → Bool) (i n v : ℕ) : Type 0 where
+  from : i ≤ v
+  le : v ≤ i + n
+  passes : v < i + n → T (test v)
+  before : (k : ℕ) → i ≤ k → k < v → T (test k) → ⊥
+
+-- a number that passes is the first from itself on
+first-here : (test : ℕ → Bool) (i n : ℕ) → T (test i) → First test i (suc n) i
+first-here test i n t = record {
+  from = omega arith;
+  le = omega arith;
+  passes = λ _. t;
+  before = λ k f l _. absurd (omega arith);
+}
+
+-- the first after a number that does not pass is the first from that number on
+first-later : (test : ℕ → Bool) (i n v : ℕ) → (T (test i) → ⊥) → First test (suc i) n v → First test i (suc n) v
+first-later test i n v fails later = record {
+  from = omega (arith, later .from);
+  le = omega (arith, later .le);
+  passes = λ l. later .passes (omega arith);
+  before = before;
+}
+  where
+    before : (k : ℕ) → i ≤ k → k < v → T (test k) → ⊥
+    before k f l = elim (ℕ-discrete k i) [ yes e ↦ rw e fails | no e ↦ later .before k (omega arith) l ]
+
+-- that is what firstFrom finds
+firstFrom-first : (test : ℕ → Bool) (i n : ℕ) → First test i n (firstFrom test i n)
+unfolding firstFrom
+firstFrom-first test i zero = record {
+  from = omega arith;
+  le = omega arith;
+  passes = λ l. absurd (omega arith);
+  before = λ k f l t. absurd (omega arith);
+}
+firstFrom-first test i (suc n) = go (test i) refl (firstFrom-first test (suc i) n)
+  where
+    go : (b : Bool) → test i ≡ b → First test (suc i) n (firstFrom test (suc i) n)
+        → First test i (suc n) (elim b [ true ↦ i | false ↦ firstFrom test (suc i) n ])
+    go true e later = first-here test i n (rw e tt)
+    go false e later = first-later test i n _ (λ t. rw e at t) later
+
+-- it is among the n from i on, or right after them
+pub firstFrom-le : (test : ℕ → Bool) (i n : ℕ) → firstFrom test i n ≤ i + n
+firstFrom-le test i n = firstFrom-first test i n .le
+
+-- it is not before i
+pub firstFrom-from : (test : ℕ → Bool) (i n : ℕ) → i ≤ firstFrom test i n
+firstFrom-from test i n = firstFrom-first test i n .from
+
+-- it passes, unless none does
+pub firstFrom-passes : (test : ℕ → Bool) (i n : ℕ) → firstFrom test i n < i + n → T (test (firstFrom test i n))
+firstFrom-passes test i n = firstFrom-first test i n .passes
+
+-- nothing before it passes
+pub firstFrom-before : (test : ℕ → Bool) (i n k : ℕ) → i ≤ k → k < firstFrom test i n → T (test k) → ⊥
+firstFrom-before test i n = firstFrom-first test i n .before

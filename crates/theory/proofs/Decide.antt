@@ -1,0 +1,832 @@
+-- `On`, an edge, sameness, a shared edge, `Reach` and being proper are decided. Each has a Bool test that computes
+-- (`..Test`), a proof that the test passes only where it is so (`..-sound`) and one that it passes wherever it is so
+-- (`..-complete`), and the decision made from these (`..?`).
+-- Whoever computes with a test or a decision says `unfolding` and its name: it opens all that it is made of.
+use Prim.Native.Nat.{ℕ, zero, suc, _+_, _-_, _*_, _/_, _%_, _≤_, _<_, min}
+use native.Mathlib.Decide.{ℕ-discrete, decLt}
+use native.Mathlib.Omega.{arith}
+use mathlib.Core.Path.{_≡_, refl, sym, ap, _∙_, subst}
+use mathlib.Core.Logic.{_≢_, _⊎_, inl, inr}
+use mathlib.Core.Bool.{Bool, true, false, not, cond, _&&_, _||_}
+use mathlib.Core.List.{List, [], _∷_, _++_, List·Memᴰ as Member, List·Memᴰ·head as first, List·Memᴰ·tail as later}
+use mathlib.Core.List.{Memᴰ·cast as member-cast, Memᴰ·append-left as member-left, Memᴰ·append-right as member-right}
+use mathlib.Core.List.{List·Memᴰ·append-cases as member-append}
+use lib.Dec.{T as So, T-not, not-T, eqb, ltb, eqb→eq, eqb-refl, ltb→lt, lt→ltb}
+use lib.ListN.{length, take, drop, length-append, length-take, length-drop}
+use lib.Seq.{getD-take, getD-drop}
+use Rattle.theory.specs.Mesh.{at, triangles, On, HasEdge, Same, Share, Reach, here, step}
+use Rattle.theory.specs.Mesh.{OtherwiseProper, Proper}
+
+-- ---- Bool tests
+
+-- a test that is right both ways decides
+abbrev pub decided : {P : Type 0} (b : Bool) → (So b → P) → (P → So b) → Dec P
+decided true sound complete = yes (sound tt)
+decided false sound complete = no complete
+
+-- both pass
+pub and-sound : (a b : Bool) → So (a && b) → So a × So b
+and-sound true b t = (tt, t)
+and-sound false b t = absurd t
+
+-- two that pass, pass together
+pub and-complete : (a b : Bool) → So a → So b → So (a && b)
+and-complete true b s t = t
+and-complete false b s t = absurd s
+
+-- all five pass
+pub and₅-sound : (a b c d e : Bool) → So (a && (b && (c && (d && e)))) → So a × So b × So c × So d × So e
+and₅-sound true true true true e t = (tt, tt, tt, tt, t)
+and₅-sound true true true false e t = absurd t
+and₅-sound true true false d e t = absurd t
+and₅-sound true false c d e t = absurd t
+and₅-sound false b c d e t = absurd t
+
+-- five that pass, pass together
+pub and₅-complete : (a b c d e : Bool) → So a → So b → So c → So d → So e → So (a && (b && (c && (d && e))))
+and₅-complete a b c d e p q r s t =
+    and-complete a _ p (and-complete b _ q (and-complete c _ r (and-complete d e s t)))
+
+-- one of the two passes
+or-sound : (a b : Bool) → So (a || b) → So a ⊎ So b
+or-sound true b t = inl tt
+or-sound false b t = inr t
+
+-- it is enough that the first passes
+or-left : (a b : Bool) → So a → So (a || b)
+or-left true b t = tt
+or-left false b t = absurd t
+
+-- or that the second does
+or-right : (a b : Bool) → So b → So (a || b)
+or-right true b t = tt
+or-right false b t = t
+
+-- equal numbers pass the test for equality
+pub eq→eqb : (m n : ℕ) → m ≡ n → So (eqb m n)
+eq→eqb m n e = rw e (eqb-refl n)
+
+-- ---- tests of lists
+
+-- whether some entry passes
+unfoldable pub someOf : (ℕ → Bool) → List ℕ → Bool
+someOf test [] = false
+someOf test (x ∷ xs) =
+    let r : Bool = someOf test xs in
+    test x || r
+
+-- then one of them passes
+pub someOf-sound : (test : ℕ → Bool) (xs : List ℕ) → So (someOf test xs) → (x : ℕ) × Member x xs × So (test x)
+unfolding someOf
+someOf-sound test [] t = absurd t
+someOf-sound test (x ∷ xs) t = go (someOf-sound test xs) (or-sound (test x) (someOf test xs) t)
+  where
+    go : (So (someOf test xs) → (y : ℕ) × Member y xs × So (test y)) → So (test x) ⊎ So (someOf test xs)
+        → (y : ℕ) × Member y (x ∷ xs) × So (test y)
+    go below (inl s) = (x, first refl, s)
+    go below (inr s) = (below s .0, later (below s .1), below s .2)
+
+-- it is enough that one passes
+pub someOf-complete : (test : ℕ → Bool) (xs : List ℕ) (x : ℕ) → Member x xs → So (test x) → So (someOf test xs)
+unfolding someOf
+someOf-complete test (x ∷ xs) y (first e) t = or-left (test x) (someOf test xs) (rw e at t)
+someOf-complete test (x ∷ xs) y (later m) t = or-right (test x) (someOf test xs) (someOf-complete test xs y m t)
+
+-- whether all entries pass
+unfoldable pub allOf : (ℕ → Bool) → List ℕ → Bool
+allOf test [] = true
+allOf test (x ∷ xs) =
+    let r : Bool = allOf test xs in
+    test x && r
+
+-- then each passes
+allOf-sound : (test : ℕ → Bool) (xs : List ℕ) → So (allOf test xs) → (x : ℕ) → Member x xs → So (test x)
+unfolding allOf
+allOf-sound test (x ∷ xs) t y (first e) = rw e (and-sound (test x) (allOf test xs) t .0)
+allOf-sound test (x ∷ xs) t y (later m) = allOf-sound test xs (and-sound (test x) (allOf test xs) t .1) y m
+
+-- it is enough that each passes
+allOf-complete : (test : ℕ → Bool) (xs : List ℕ) → ((x : ℕ) → Member x xs → So (test x)) → So (allOf test xs)
+unfolding allOf
+allOf-complete test [] h = tt
+allOf-complete test (x ∷ xs) h =
+    and-complete (test x) (allOf test xs) (h x (first refl)) (allOf-complete test xs (λ y m. h y (later m)))
+
+-- whether the number is an entry
+unfoldable pub isIn : ℕ → List ℕ → Bool
+unfolding someOf
+isIn v xs = someOf (eqb v) xs
+
+-- then it is an entry
+isIn-sound : (v : ℕ) (xs : List ℕ) → So (isIn v xs) → Member v xs
+unfolding isIn
+isIn-sound v xs t = go (someOf-sound (eqb v) xs t)
+  where
+    go : (x : ℕ) × Member x xs × So (eqb v x) → Member v xs
+    go (x, m, e) = member-cast (eqb→eq v x e) m
+
+-- an entry is found
+isIn-complete : (v : ℕ) (xs : List ℕ) → Member v xs → So (isIn v xs)
+unfolding isIn
+isIn-complete v xs m = someOf-complete (eqb v) xs v m (eqb-refl v)
+
+-- the entries that pass, in order
+unfoldable pub passing : (ℕ → Bool) → List ℕ → List ℕ
+passing test [] = []
+passing test (x ∷ xs) =
+    let r : List ℕ = passing test xs in
+    cond (test x) (x ∷ r) r
+
+-- what is kept is an entry that passes
+passing-sound : (test : ℕ → Bool) (xs : List ℕ) (y : ℕ) → Member y (passing test xs) → Member y xs × So (test y)
+unfolding passing
+passing-sound test [] y m = elim m [ ]
+passing-sound test (x ∷ xs) y m = go (passing-sound test xs y) (test x) refl m
+  where
+    go : (Member y (passing test xs) → Member y xs × So (test y)) → (b : Bool) → test x ≡ b
+        → Member y (cond b (x ∷ passing test xs) (passing test xs)) → Member y (x ∷ xs) × So (test y)
+    go below true e (first p) = (first p, rw (p, e) tt)
+    go below true e (later n) = (later (below n .0), below n .1)
+    go below false e n = (later (below n .0), below n .1)
+
+-- an entry that passes is kept
+passing-complete : (test : ℕ → Bool) (xs : List ℕ) (y : ℕ) → Member y xs → So (test y) → Member y (passing test xs)
+unfolding passing
+passing-complete test (x ∷ xs) y (first p) t = go (test x) (rw p at t)
+  where
+    go : (b : Bool) → So b → Member y (cond b (x ∷ passing test xs) (passing test xs))
+    go true s = first p
+    go false s = absurd s
+passing-complete test (x ∷ xs) y (later m) t = go (test x) (passing-complete test xs y m t)
+  where
+    go : (b : Bool) → Member y (passing test xs) → Member y (cond b (x ∷ passing test xs) (passing test xs))
+    go true n = later n
+    go false n = n
+
+-- where no entry passes two tests, no more are kept by the two together than there are
+passing-length : (f g : ℕ → Bool) (xs : List ℕ) → ((x : ℕ) → Member x xs → So (f x) → So (g x) → ⊥)
+    → length (passing f xs) + length (passing g xs) ≤ length xs
+unfolding passing
+passing-length f g [] clash = omega arith
+passing-length f g (x ∷ xs) clash =
+    go (f x) (g x) (clash x (first refl)) (passing-length f g xs (λ y m. clash y (later m)))
+  where
+    go : (a b : Bool) → (So a → So b → ⊥) → length (passing f xs) + length (passing g xs) ≤ length xs
+        → length (cond a (x ∷ passing f xs) (passing f xs)) + length (cond b (x ∷ passing g xs) (passing g xs))
+        ≤ suc (length xs)
+    go true true c l = absurd (c tt tt)
+    go true false c l = omega arith
+    go false true c l = omega arith
+    go false false c l = omega arith
+
+-- ---- the numbers below a bound
+
+-- n - 1, .., 0
+unfoldable pub numbers : ℕ → List ℕ
+numbers zero = []
+numbers (suc n) = n ∷ numbers n
+
+-- there are n of them
+numbers-length : (n : ℕ) → length (numbers n) ≡ n
+unfolding numbers
+numbers-length zero = refl
+numbers-length (suc n) = ap suc (numbers-length n)
+
+-- each is below n
+pub numbers-below : (n i : ℕ) → Member i (numbers n) → i < n
+unfolding numbers
+numbers-below (suc n) i (first e) = omega arith
+numbers-below (suc n) i (later m) = omega (arith, numbers-below n i m)
+
+-- each number below n is one of them
+pub below-numbers : (n i : ℕ) → i < n → Member i (numbers n)
+unfolding numbers
+below-numbers zero i l = absurd (omega arith)
+below-numbers (suc n) i l = go (below-numbers n i) (ℕ-discrete i n)
+  where
+    go : (i < n → Member i (numbers n)) → Dec (i ≡ n) → Member i (n ∷ numbers n)
+    go below (yes e) = first e
+    go below (no d) = later (below (omega arith))
+
+-- whether all numbers below n pass
+unfoldable pub allBelow : (ℕ → Bool) → ℕ → Bool
+unfolding allOf numbers
+allBelow test n = allOf test (numbers n)
+
+-- then each passes
+pub allBelow-sound : (test : ℕ → Bool) (n : ℕ) → So (allBelow test n) → (i : ℕ) → i < n → So (test i)
+unfolding allBelow
+allBelow-sound test n t i l = allOf-sound test (numbers n) t i (below-numbers n i l)
+
+-- it is enough that each passes
+pub allBelow-complete : (test : ℕ → Bool) (n : ℕ) → ((i : ℕ) → i < n → So (test i)) → So (allBelow test n)
+unfolding allBelow
+allBelow-complete test n h = allOf-complete test (numbers n) (λ i m. h i (numbers-below n i m))
+
+-- ---- entries and their places
+
+-- what stands at a place of the list is an entry
+at-member : (xs : List ℕ) (i : ℕ) → i < length xs → Member (at xs i) xs
+at-member [] i l = absurd (omega arith)
+at-member (x ∷ xs) zero l = first refl
+at-member (x ∷ xs) (suc i) l = later (at-member xs i (omega arith))
+
+-- an entry stands at some place
+member-at : {v : ℕ} {xs : List ℕ} → Member v xs → (i : ℕ) × (i < length xs) × (at xs i ≡ v)
+member-at (first e) = (0, omega arith, sym e)
+member-at {v} (later {x} {xs} m) = go (member-at m)
+  where
+    go : (i : ℕ) × (i < length xs) × (at xs i ≡ v) → (i : ℕ) × (i < length (x ∷ xs)) × (at (x ∷ xs) i ≡ v)
+    go (i, l, e) = (suc i, omega arith, e)
+
+-- whether no entry stands twice
+unfoldable pub allApart : List ℕ → Bool
+unfolding isIn
+allApart [] = true
+allApart (x ∷ xs) =
+    let r : Bool = allApart xs in
+    not (isIn x xs) && r
+
+-- then no entry after the first is equal to it
+first-apart : (x : ℕ) (xs : List ℕ) (j : ℕ) → So (allApart (x ∷ xs)) → j < length xs → x ≡ at xs j → ⊥
+unfolding allApart
+first-apart x xs j t l e =
+    T-not (isIn x xs) (and-sound (not (isIn x xs)) (allApart xs) t .0)
+    (isIn-complete x xs (member-cast e (at-member xs j l)))
+
+-- and equal entries stand at one place
+pub allApart-sound : (xs : List ℕ) → So (allApart xs)
+    → (i j : ℕ) → i < length xs → j < length xs → at xs i ≡ at xs j → i ≡ j
+unfolding allApart
+allApart-sound [] t i j l m e = absurd (omega arith)
+allApart-sound (x ∷ xs) t zero zero l m e = refl
+allApart-sound (x ∷ xs) t zero (suc j) l m e = absurd (first-apart x xs j t (omega arith) e)
+allApart-sound (x ∷ xs) t (suc i) zero l m e = absurd (first-apart x xs i t (omega arith) (sym e))
+allApart-sound (x ∷ xs) t (suc i) (suc j) l m e =
+    ap suc (allApart-sound xs (and-sound (not (isIn x xs)) (allApart xs) t .1) i j (omega arith) (omega arith) e)
+
+-- where equal entries stand at one place, no entry stands twice
+pub allApart-complete : (xs : List ℕ) → ((i j : ℕ) → i < length xs → j < length xs → at xs i ≡ at xs j → i ≡ j)
+    → So (allApart xs)
+unfolding allApart
+allApart-complete [] h = tt
+allApart-complete (x ∷ xs) h =
+    and-complete (not (isIn x xs)) (allApart xs) (not-T (isIn x xs) (λ t. go (member-at (isIn-sound x xs t))))
+    (allApart-complete xs (λ i j l m e. omega (arith, h (suc i) (suc j) (omega arith) (omega arith) e)))
+  where
+    go : (i : ℕ) × (i < length xs) × (at xs i ≡ x) → ⊥
+    go (i, l, e) = omega (arith, h (suc i) 0 (omega arith) (omega arith) e)
+
+-- ---- On and HasEdge
+
+-- the entries at the corners of triangle k
+unfoldable pub corners : List ℕ → ℕ → List ℕ
+corners T k = take 3 (drop (3 * k) T)
+
+-- three, unless the list ends before
+corners-length : (T : List ℕ) (k : ℕ) → length (corners T k) ≡ min 3 (length T - 3 * k)
+unfolding corners
+corners-length T k = simp (length-take, length-drop)
+
+-- in the order of the list
+corners-at : (T : List ℕ) (k i : ℕ) → i < 3 → at (corners T k) i ≡ at T (3 * k + i)
+unfolding corners
+corners-at T k i l = rw (getD-take, getD-drop)
+
+-- corner c is the corner c % 3 of its triangle
+corners-corner : (T : List ℕ) (c k : ℕ) → c / 3 ≡ k → at (corners T k) (c % 3) ≡ at T c
+corners-corner T c k e = corners-at T k (c % 3) (omega arith) ∙ ap (at T) (omega arith)
+
+-- what is on a triangle stands at one of its corners
+on-corner : (T : List ℕ) (k v : ℕ) → On T k v → Member v (corners T k)
+on-corner T k v o =
+    member-cast (sym (o .holds) ∙ sym (corners-corner T (o .corner) k (o .triangle)))
+    (at-member (corners T k) (o .corner % 3) (omega (arith, corners-length T k)))
+
+-- what stands at a corner of a triangle is on it
+corner-on : (T : List ℕ) (k v : ℕ) → Member v (corners T k) → On T k v
+corner-on T k v m = go (member-at m)
+  where
+    go : (i : ℕ) × (i < length (corners T k)) × (at (corners T k) i ≡ v) → On T k v
+    go (i, l, e) =
+        let b : i < 3 = omega (arith, corners-length T k) in
+        record {
+          corner = 3 * k + i;
+          inside = omega (arith, corners-length T k);
+          triangle = omega arith;
+          holds = sym (corners-at T k i b) ∙ e;
+        }
+
+-- v is one of the entries at the corners of k
+unfoldable pub onTest : List ℕ → ℕ → ℕ → Bool
+unfolding isIn corners
+onTest T k v = isIn v (corners T k)
+
+pub onTest-sound : (T : List ℕ) (k v : ℕ) → So (onTest T k v) → On T k v
+unfolding onTest
+onTest-sound T k v t = corner-on T k v (isIn-sound v (corners T k) t)
+
+pub onTest-complete : (T : List ℕ) (k v : ℕ) → On T k v → So (onTest T k v)
+unfolding onTest
+onTest-complete T k v o = isIn-complete v (corners T k) (on-corner T k v o)
+
+unfoldable pub on? : (T : List ℕ) (k v : ℕ) → Dec (On T k v)
+unfolding onTest
+on? T k v = decided (onTest T k v) (onTest-sound T k v) (onTest-complete T k v)
+
+-- u and v differ and are both on k
+unfoldable pub hasEdgeTest : List ℕ → ℕ → ℕ → ℕ → Bool
+unfolding onTest
+hasEdgeTest T k u v = not (eqb u v) && (onTest T k u && onTest T k v)
+
+pub hasEdgeTest-sound : (T : List ℕ) (k u v : ℕ) → So (hasEdgeTest T k u v) → HasEdge T k u v
+unfolding hasEdgeTest
+hasEdgeTest-sound T k u v t = go (and-sound (not (eqb u v)) (onTest T k u && onTest T k v) t)
+  where
+    go : So (not (eqb u v)) × So (onTest T k u && onTest T k v) → HasEdge T k u v
+    go (d, b) = record {
+      differ = λ e. T-not (eqb u v) d (eq→eqb u v e);
+      oneEnd = onTest-sound T k u (and-sound (onTest T k u) (onTest T k v) b .0);
+      otherEnd = onTest-sound T k v (and-sound (onTest T k u) (onTest T k v) b .1);
+    }
+
+pub hasEdgeTest-complete : (T : List ℕ) (k u v : ℕ) → HasEdge T k u v → So (hasEdgeTest T k u v)
+unfolding hasEdgeTest
+hasEdgeTest-complete T k u v h =
+    and-complete (not (eqb u v)) (onTest T k u && onTest T k v) (not-T (eqb u v) (λ t. h .differ (eqb→eq u v t)))
+    (and-complete (onTest T k u) (onTest T k v)
+    (onTest-complete T k u (h .oneEnd)) (onTest-complete T k v (h .otherEnd)))
+
+unfoldable pub hasEdge? : (T : List ℕ) (k u v : ℕ) → Dec (HasEdge T k u v)
+unfolding hasEdgeTest
+hasEdge? T k u v = decided (hasEdgeTest T k u v) (hasEdgeTest-sound T k u v) (hasEdgeTest-complete T k u v)
+
+-- ---- Same
+
+-- what stands at the corners of triangle k of T is on triangle l of S
+unfoldable pub coversTest : List ℕ → ℕ → List ℕ → ℕ → Bool
+unfolding allOf onTest
+coversTest T k S l = allOf (onTest S l) (corners T k)
+
+-- then so is all that is on k, since it stands at a corner
+coversTest-sound : (T : List ℕ) (k : ℕ) (S : List ℕ) (l : ℕ) → So (coversTest T k S l) → (v : ℕ) → On T k v → On S l v
+unfolding coversTest
+coversTest-sound T k S l t v o = onTest-sound S l v (allOf-sound (onTest S l) (corners T k) t v (on-corner T k v o))
+
+-- and the corners are on k
+coversTest-complete : (T : List ℕ) (k : ℕ) (S : List ℕ) (l : ℕ) → ((v : ℕ) → On T k v → On S l v)
+    → So (coversTest T k S l)
+unfolding coversTest
+coversTest-complete T k S l h =
+    allOf-complete (onTest S l) (corners T k) (λ v m. onTest-complete S l v (h v (corner-on T k v m)))
+
+-- each covers the other
+unfoldable pub sameTest : List ℕ → ℕ → List ℕ → ℕ → Bool
+unfolding coversTest
+sameTest T k S l = coversTest T k S l && coversTest S l T k
+
+pub sameTest-sound : (T : List ℕ) (k : ℕ) (S : List ℕ) (l : ℕ) → So (sameTest T k S l) → Same T k S l
+unfolding sameTest
+sameTest-sound T k S l t = record {
+  there = coversTest-sound T k S l (and-sound (coversTest T k S l) (coversTest S l T k) t .0);
+  back = coversTest-sound S l T k (and-sound (coversTest T k S l) (coversTest S l T k) t .1);
+}
+
+pub sameTest-complete : (T : List ℕ) (k : ℕ) (S : List ℕ) (l : ℕ) → Same T k S l → So (sameTest T k S l)
+unfolding sameTest
+sameTest-complete T k S l s =
+    and-complete (coversTest T k S l) (coversTest S l T k)
+    (coversTest-complete T k S l (s .there)) (coversTest-complete S l T k (s .back))
+
+unfoldable pub same? : (T : List ℕ) (k : ℕ) (S : List ℕ) (l : ℕ) → Dec (Same T k S l)
+unfolding sameTest
+same? T k S l = decided (sameTest T k S l) (sameTest-sound T k S l) (sameTest-complete T k S l)
+
+-- sameness goes both ways
+pub same-sym : {T : List ℕ} {k : ℕ} {S : List ℕ} {l : ℕ} → Same T k S l → Same S l T k
+same-sym s = record { there = s .back; back = s .there }
+
+-- ---- Share
+
+-- whether there are two different entries
+unfoldable pub someDiffer : List ℕ → Bool
+unfolding someOf
+someDiffer xs = someOf (λ u. someOf (λ v. not (eqb u v)) xs) xs
+
+-- then there are two
+someDiffer-sound : (xs : List ℕ) → So (someDiffer xs) → (u : ℕ) × (v : ℕ) × Member u xs × Member v xs × (u ≢ v)
+unfolding someDiffer
+someDiffer-sound xs t = outer (someOf-sound _ xs t)
+  where
+    inner : (u : ℕ) → Member u xs → (v : ℕ) × Member v xs × So (not (eqb u v))
+        → (u : ℕ) × (v : ℕ) × Member u xs × Member v xs × (u ≢ v)
+    inner u m (v, n, d) = (u, v, m, n, λ e. T-not (eqb u v) d (eq→eqb u v e))
+
+    outer : (u : ℕ) × Member u xs × So (someOf (λ v. not (eqb u v)) xs)
+        → (u : ℕ) × (v : ℕ) × Member u xs × Member v xs × (u ≢ v)
+    outer (u, m, s) = inner u m (someOf-sound _ xs s)
+
+-- two are enough
+someDiffer-complete : (xs : List ℕ) (u v : ℕ) → Member u xs → Member v xs → u ≢ v → So (someDiffer xs)
+unfolding someDiffer
+someDiffer-complete xs u v m n d =
+    someOf-complete _ xs u m (someOf-complete _ xs v n (not-T (eqb u v) (λ t. d (eqb→eq u v t))))
+
+-- the vertices of k that are on l
+unfoldable pub common : List ℕ → ℕ → ℕ → List ℕ
+unfolding passing onTest
+common T k l = passing (onTest T l) (corners T k)
+
+-- they are on both
+common-sound : (T : List ℕ) (k l v : ℕ) → Member v (common T k l) → On T k v × On T l v
+unfolding common
+common-sound T k l v m = go (passing-sound (onTest T l) (corners T k) v m)
+  where
+    go : Member v (corners T k) × So (onTest T l v) → On T k v × On T l v
+    go (n, t) = (corner-on T k v n, onTest-sound T l v t)
+
+-- and all that are on both
+common-complete : (T : List ℕ) (k l v : ℕ) → On T k v → On T l v → Member v (common T k l)
+unfolding common
+common-complete T k l v o p =
+    passing-complete (onTest T l) (corners T k) v (on-corner T k v o) (onTest-complete T l v p)
+
+-- two different vertices are on both
+unfoldable pub shareTest : List ℕ → ℕ → ℕ → Bool
+unfolding someDiffer common
+shareTest T k l = someDiffer (common T k l)
+
+pub shareTest-sound : (T : List ℕ) (k l : ℕ) → So (shareTest T k l) → Share T k l
+unfolding shareTest
+shareTest-sound T k l t = go (someDiffer-sound (common T k l) t)
+  where
+    go : (u : ℕ) × (v : ℕ) × Member u (common T k l) × Member v (common T k l) × (u ≢ v) → Share T k l
+    go (u, v, m, n, d) = record {
+      u = u;
+      v = v;
+      one = record { differ = d; oneEnd = common-sound T k l u m .0; otherEnd = common-sound T k l v n .0 };
+      other = record { differ = d; oneEnd = common-sound T k l u m .1; otherEnd = common-sound T k l v n .1 };
+    }
+
+pub shareTest-complete : (T : List ℕ) (k l : ℕ) → Share T k l → So (shareTest T k l)
+unfolding shareTest
+shareTest-complete T k l s =
+    someDiffer-complete (common T k l) (s .u) (s .v) (common-complete T k l (s .u) (s .one .oneEnd) (s .other .oneEnd))
+    (common-complete T k l (s .v) (s .one .otherEnd) (s .other .otherEnd)) (s .one .differ)
+
+unfoldable pub share? : (T : List ℕ) (k l : ℕ) → Dec (Share T k l)
+unfolding shareTest
+share? T k l = decided (shareTest T k l) (shareTest-sound T k l) (shareTest-complete T k l)
+
+-- ---- laws of Share and Reach
+
+-- a shared edge is shared both ways
+pub share-sym : {T : List ℕ} {k l : ℕ} → Share T k l → Share T l k
+share-sym s = record { u = s .u; v = s .v; one = s .other; other = s .one }
+
+-- one way after another
+pub reach-trans : {T : List ℕ} {k l m : ℕ} → Reach T k l → Reach T l m → Reach T k m
+reach-trans r here = r
+reach-trans r (step q s) = step (reach-trans r q) s
+
+-- the way back
+pub reach-sym : {T : List ℕ} {k l : ℕ} → Reach T k l → Reach T l k
+reach-sym here = here
+reach-sym (step q s) = reach-trans (step here (share-sym s)) (reach-sym q)
+
+-- what is on a triangle, even a last one of fewer than three corners, is on one up to F
+pub on-le : {T : List ℕ} {k v : ℕ} → On T k v → k ≤ triangles T
+on-le o = omega arith
+
+-- steps over edges stay inside the mesh
+pub reach-below : {T : List ℕ} {k l : ℕ} → Reach T k l → k < triangles T → length T ≡ 3 * triangles T → l < triangles T
+reach-below here l whole = l
+reach-below (step q s) l whole = omega (arith, s .other .oneEnd)
+
+-- ---- Reach
+
+-- those of a list that share an edge with triangle k
+unfoldable pub beside : List ℕ → ℕ → List ℕ → List ℕ
+unfolding shareTest
+beside T k rest = passing (shareTest T k) rest
+
+-- those of a list that are not in another
+unfoldable pub without : List ℕ → List ℕ → List ℕ
+unfolding passing isIn
+without gone rest = passing (λ x. not (isIn x gone)) rest
+
+-- one by one, the triangles reached from the frontier over triangles of the rest: the first of the frontier is
+-- reached, and those of the rest beside it join the frontier; n is at least the number of all
+unfoldable pub flood : List ℕ → ℕ → List ℕ → List ℕ → List ℕ
+unfolding beside without
+flood T zero frontier rest = []
+flood T (suc n) [] rest = []
+flood T (suc n) (k ∷ frontier) rest =
+    let new : List ℕ = beside T k rest in
+    k ∷ flood T n (new ++ frontier) (without new rest)
+
+-- then the edge is shared
+beside-sound : (T : List ℕ) (k : ℕ) (rest : List ℕ) (l : ℕ) → Member l (beside T k rest) → Share T k l
+unfolding beside
+beside-sound T k rest l m = shareTest-sound T k l (passing-sound (shareTest T k) rest l m .1)
+
+-- each that shares an edge is found
+beside-complete : (T : List ℕ) (k : ℕ) (rest : List ℕ) (l : ℕ) → Member l rest → Share T k l
+    → Member l (beside T k rest)
+unfolding beside
+beside-complete T k rest l m s = passing-complete (shareTest T k) rest l m (shareTest-complete T k l s)
+
+-- an entry is among the gone or among the others
+gone-or-not : (gone rest : List ℕ) (x : ℕ) → Member x rest → Member x gone ⊎ Member x (without gone rest)
+unfolding without
+gone-or-not gone rest x m = go (isIn x gone) (isIn-sound x gone) (passing-complete (λ y. not (isIn y gone)) rest x m)
+  where
+    go : (b : Bool) → (So b → Member x gone) → (So (not b) → Member x (without gone rest))
+        → Member x gone ⊎ Member x (without gone rest)
+    go true s c = inl (s tt)
+    go false s c = inr (c tt)
+
+-- the turn of the frontier's first leaves one fewer to come
+flood-room : (T : List ℕ) (n k : ℕ) (frontier rest : List ℕ) → length (k ∷ frontier) + length rest ≤ suc n
+    → length (beside T k rest ++ frontier) + length (without (beside T k rest) rest) ≤ n
+unfolding beside without
+flood-room T n k frontier rest l =
+    rw length-append (omega (arith, passing-length (shareTest T k) (λ x. not (isIn x (beside T k rest))) rest clash))
+  where
+    clash : (x : ℕ) → Member x rest → So (shareTest T k x) → So (not (isIn x (beside T k rest))) → ⊥
+    clash x m t d = T-not (isIn x (beside T k rest)) d
+        (isIn-complete x (beside T k rest) (passing-complete (shareTest T k) rest x m t))
+
+-- what all of the frontier is reached from, all of the flood is reached from
+flood-sound : (T : List ℕ) (j n : ℕ) (frontier rest : List ℕ) → ((l : ℕ) → Member l frontier → Reach T j l)
+    → (l : ℕ) → Member l (flood T n frontier rest) → Reach T j l
+unfolding flood
+flood-sound T j zero frontier rest reach l m = elim m [ ]
+flood-sound T j (suc n) [] rest reach l m = elim m [ ]
+flood-sound T j (suc n) (k ∷ frontier) rest reach l (first e) = reach l (first e)
+flood-sound T j (suc n) (k ∷ frontier) rest reach l (later m) =
+    flood-sound T j n (beside T k rest ++ frontier) (without (beside T k rest) rest)
+    (λ i o. go i (member-append (beside T k rest) o)) l m
+  where
+    go : (i : ℕ) → Member i (beside T k rest) ⊎ Member i frontier → Reach T j i
+    go i (inl o) = step (reach k (first refl)) (beside-sound T k rest i o)
+    go i (inr o) = reach i (later o)
+
+-- all of the frontier is in the flood
+flood-frontier : (T : List ℕ) (n : ℕ) (frontier rest : List ℕ) → length frontier + length rest ≤ n
+    → (l : ℕ) → Member l frontier → Member l (flood T n frontier rest)
+unfolding flood
+flood-frontier T zero [] rest room l m = elim m [ ]
+flood-frontier T zero (k ∷ frontier) rest room l m = absurd (omega arith)
+flood-frontier T (suc n) [] rest room l m = elim m [ ]
+flood-frontier T (suc n) (k ∷ frontier) rest room l (first e) = first e
+flood-frontier T (suc n) (k ∷ frontier) rest room l (later m) =
+    later (flood-frontier T n (beside T k rest ++ frontier) (without (beside T k rest) rest)
+    (flood-room T n k frontier rest room) l (member-right (beside T k rest) m))
+
+-- one of the rest that shares an edge with one of the flood is in the flood
+flood-closed : (T : List ℕ) (n : ℕ) (frontier rest : List ℕ) → length frontier + length rest ≤ n
+    → (i l : ℕ) → Share T i l → Member l rest → Member i (flood T n frontier rest) → Member l (flood T n frontier rest)
+unfolding flood
+flood-closed T zero frontier rest room i l s o m = elim m [ ]
+flood-closed T (suc n) [] rest room i l s o m = elim m [ ]
+flood-closed T (suc n) (k ∷ frontier) rest room i l s o m =
+    later (go (flood-closed T n front back room′ i l s) (gone-or-not (beside T k rest) rest l o) m)
+  where
+    front : List ℕ
+    front = beside T k rest ++ frontier
+
+    back : List ℕ
+    back = without (beside T k rest) rest
+
+    room′ : length front + length back ≤ n
+    room′ = flood-room T n k frontier rest room
+
+    new : Member l (beside T k rest) → Member l (flood T n front back)
+    new p = flood-frontier T n front back room′ l (member-left frontier p)
+
+    go : (Member l back → Member i (flood T n front back) → Member l (flood T n front back))
+        → Member l (beside T k rest) ⊎ Member l back → Member i (k ∷ flood T n front back)
+        → Member l (flood T n front back)
+    go below (inl p) q = new p
+    go below (inr p) (first e) = new (beside-complete T k rest l o (subst (λ h. Share T h l) e s))
+    go below (inr p) (later q) = below p q
+
+-- the triangles reached from triangle k; a last one of fewer than three corners counts too
+unfoldable pub reached : List ℕ → ℕ → List ℕ
+unfolding flood numbers
+reached T k = flood T (triangles T + 2) (k ∷ []) (numbers (triangles T + 1))
+
+-- the bound holds at the start
+reached-room : (T : List ℕ) (k : ℕ) → length (k ∷ []) + length (numbers (triangles T + 1)) ≤ triangles T + 2
+reached-room T k = rw numbers-length (omega arith)
+
+-- l is one of them
+unfoldable pub reachTest : List ℕ → ℕ → ℕ → Bool
+unfolding reached isIn
+reachTest T k l = isIn l (reached T k)
+
+pub reachTest-sound : (T : List ℕ) (k l : ℕ) → So (reachTest T k l) → Reach T k l
+unfolding reachTest reached
+reachTest-sound T k l t =
+    flood-sound T k (triangles T + 2) (k ∷ []) (numbers (triangles T + 1)) start l (isIn-sound l (reached T k) t)
+  where
+    start : (i : ℕ) → Member i (k ∷ []) → Reach T k i
+    start i (first e) = rw e here
+    start i (later m) = elim m [ ]
+
+-- step by step, none leaves the triangles reached
+reach-reached : {T : List ℕ} {k l : ℕ} → Reach T k l → Member l (reached T k)
+unfolding reached
+reach-reached {T} {k} here =
+    flood-frontier T (triangles T + 2) (k ∷ []) (numbers (triangles T + 1)) (reached-room T k) k (first refl)
+reach-reached {T} {k} (step {l} {m} q s) =
+    flood-closed T (triangles T + 2) (k ∷ []) (numbers (triangles T + 1)) (reached-room T k) l m s
+    (below-numbers (triangles T + 1) m (omega (arith, on-le (s .other .oneEnd)))) (reach-reached q)
+
+pub reachTest-complete : (T : List ℕ) (k l : ℕ) → Reach T k l → So (reachTest T k l)
+unfolding reachTest
+reachTest-complete T k l r = isIn-complete l (reached T k) (reach-reached r)
+
+unfoldable pub reach? : (T : List ℕ) (k l : ℕ) → Dec (Reach T k l)
+unfolding reachTest
+reach? T k l = decided (reachTest T k l) (reachTest-sound T k l) (reachTest-complete T k l)
+
+-- ---- being proper, condition by condition
+
+-- the list ends with a triangle
+unfoldable pub wholeTest : List ℕ → Bool
+wholeTest T = eqb (length T) (3 * triangles T)
+
+wholeTest-sound : (T : List ℕ) → So (wholeTest T) → length T ≡ 3 * triangles T
+unfolding wholeTest
+wholeTest-sound T t = eqb→eq (length T) (3 * triangles T) t
+
+wholeTest-complete : (T : List ℕ) → length T ≡ 3 * triangles T → So (wholeTest T)
+unfolding wholeTest
+wholeTest-complete T e = eq→eqb (length T) (3 * triangles T) e
+
+-- every entry is below N
+unfoldable pub belowTest : ℕ → List ℕ → Bool
+unfolding allOf
+belowTest N T = allOf (λ v. ltb v N) T
+
+pub belowTest-sound : (N : ℕ) (T : List ℕ) → So (belowTest N T) → (c : ℕ) → c < length T → at T c < N
+unfolding belowTest
+belowTest-sound N T t c l = ltb→lt (at T c) N (allOf-sound (λ v. ltb v N) T t (at T c) (at-member T c l))
+
+pub belowTest-complete : (N : ℕ) (T : List ℕ) → ((c : ℕ) → c < length T → at T c < N) → So (belowTest N T)
+unfolding belowTest
+belowTest-complete N T below = allOf-complete (λ v. ltb v N) T (λ v m. lt→ltb v N (go v (member-at m)))
+  where
+    go : (v : ℕ) → (c : ℕ) × (c < length T) × (at T c ≡ v) → v < N
+    go v (c, l, e) = omega (arith, below c l)
+
+-- no triangle has a vertex twice
+unfoldable pub differentTest : List ℕ → Bool
+unfolding allBelow allApart corners
+differentTest T = allBelow (λ k. allApart (corners T k)) (triangles T)
+
+differentTest-sound : (T : List ℕ) → length T ≡ 3 * triangles T → So (differentTest T)
+    → (c d : ℕ) → c < length T → d < length T → c / 3 ≡ d / 3 → at T c ≡ at T d → c ≡ d
+unfolding differentTest
+differentTest-sound T whole t c d l m f e = omega (arith, inTriangle)
+  where
+    apart : So (allApart (corners T (c / 3)))
+    apart = allBelow-sound (λ k. allApart (corners T k)) (triangles T) t (c / 3) (omega arith)
+
+    inTriangle : c % 3 ≡ d % 3
+    inTriangle =
+        allApart-sound (corners T (c / 3)) apart (c % 3) (d % 3) (omega (arith, corners-length T (c / 3)))
+        (omega (arith, corners-length T (c / 3)))
+        (corners-corner T c (c / 3) refl ∙ e ∙ sym (corners-corner T d (c / 3) (sym f)))
+
+differentTest-complete : (T : List ℕ)
+    → ((c d : ℕ) → c < length T → d < length T → c / 3 ≡ d / 3 → at T c ≡ at T d → c ≡ d) → So (differentTest T)
+unfolding differentTest
+differentTest-complete T different =
+    allBelow-complete (λ k. allApart (corners T k)) (triangles T) (λ k m. allApart-complete (corners T k) (go k))
+  where
+    go : (k i j : ℕ) → i < length (corners T k) → j < length (corners T k)
+        → at (corners T k) i ≡ at (corners T k) j → i ≡ j
+    go k i j l m e =
+        let a : i < 3 = omega (arith, corners-length T k) in
+        let b : j < 3 = omega (arith, corners-length T k) in
+        omega (
+          arith,
+          different (3 * k + i) (3 * k + j) (omega (arith, corners-length T k)) (omega (arith, corners-length T k))
+              (omega arith) (sym (corners-at T k i a) ∙ e ∙ corners-at T k j b),
+        )
+
+-- no triangle is the same as an earlier one
+unfoldable pub unlikeTest : List ℕ → Bool
+unfolding allBelow sameTest
+unlikeTest T = allBelow (λ j. allBelow (λ k. not (sameTest T j T k)) j) (triangles T)
+
+unlikeTest-sound : (T : List ℕ) → So (unlikeTest T)
+    → (j k : ℕ) → j < triangles T → k < triangles T → Same T j T k → j ≡ k
+unfolding unlikeTest
+unlikeTest-sound T t j k l m s = go (decLt j k) (decLt k j)
+  where
+    unlike : (i h : ℕ) → i < triangles T → h < i → Same T i T h → ⊥
+    unlike i h a b r =
+        T-not (sameTest T i T h) (allBelow-sound _ i (allBelow-sound _ (triangles T) t i a) h b)
+        (sameTest-complete T i T h r)
+
+    go : Dec (j < k) → Dec (k < j) → j ≡ k
+    go (yes a) d = absurd (unlike k j m a (same-sym s))
+    go (no a) (yes b) = absurd (unlike j k l b s)
+    go (no a) (no b) = omega arith
+
+unlikeTest-complete : (T : List ℕ)
+    → ((j k : ℕ) → j < triangles T → k < triangles T → Same T j T k → j ≡ k) → So (unlikeTest T)
+unfolding unlikeTest
+unlikeTest-complete T unlike =
+    allBelow-complete _ (triangles T) (λ j l. allBelow-complete _ j (λ k m. not-T (sameTest T j T k) (go j k l m)))
+  where
+    go : (j k : ℕ) → j < triangles T → k < j → So (sameTest T j T k) → ⊥
+    go j k l m t = omega (arith, unlike j k l (omega arith) (sameTest-sound T j T k t))
+
+-- every vertex is an entry
+unfoldable pub usedTest : ℕ → List ℕ → Bool
+unfolding allBelow isIn
+usedTest N T = allBelow (λ v. isIn v T) N
+
+pub usedTest-sound : (N : ℕ) (T : List ℕ) → So (usedTest N T) → (v : ℕ) → v < N → (k : ℕ) × On T k v
+unfolding usedTest
+usedTest-sound N T t v l = go (member-at (isIn-sound v T (allBelow-sound (λ w. isIn w T) N t v l)))
+  where
+    go : (c : ℕ) × (c < length T) × (at T c ≡ v) → (k : ℕ) × On T k v
+    go (c, m, e) = (c / 3, record { corner = c; inside = m; triangle = refl; holds = e })
+
+pub usedTest-complete : (N : ℕ) (T : List ℕ) → ((v : ℕ) → v < N → (k : ℕ) × On T k v) → So (usedTest N T)
+unfolding usedTest
+usedTest-complete N T used = allBelow-complete (λ v. isIn v T) N (λ v l. isIn-complete v T (go v (used v l)))
+  where
+    go : (v : ℕ) → (k : ℕ) × On T k v → Member v T
+    go v (k, o) = member-cast (sym (o .holds)) (at-member T (o .corner) (o .inside))
+
+-- every triangle is among those reached from triangle 0, which are found once
+unfoldable pub connectedTest : List ℕ → Bool
+unfolding allBelow reachTest
+connectedTest T =
+    let all : List ℕ = reached T 0 in
+    allBelow (λ k. isIn k all) (triangles T)
+
+connectedTest-sound : (T : List ℕ) → So (connectedTest T) → (k : ℕ) → k < triangles T → Reach T 0 k
+unfolding connectedTest
+connectedTest-sound T t k l = reachTest-sound T 0 k (allBelow-sound (reachTest T 0) (triangles T) t k l)
+
+connectedTest-complete : (T : List ℕ) → ((k : ℕ) → k < triangles T → Reach T 0 k) → So (connectedTest T)
+unfolding connectedTest
+connectedTest-complete T connected =
+    allBelow-complete (reachTest T 0) (triangles T) (λ k l. reachTest-complete T 0 k (connected k l))
+
+-- ---- being proper
+
+unfoldable pub otherwiseTest : ℕ → List ℕ → Bool
+unfolding wholeTest belowTest differentTest unlikeTest usedTest
+otherwiseTest N T = wholeTest T && (belowTest N T && (differentTest T && (unlikeTest T && usedTest N T)))
+
+pub otherwiseTest-sound : (N : ℕ) (T : List ℕ) → So (otherwiseTest N T) → OtherwiseProper N T
+unfolding otherwiseTest
+otherwiseTest-sound N T t =
+    go (and₅-sound (wholeTest T) (belowTest N T) (differentTest T) (unlikeTest T) (usedTest N T) t)
+  where
+    go : So (wholeTest T) × So (belowTest N T) × So (differentTest T) × So (unlikeTest T) × So (usedTest N T)
+        → OtherwiseProper N T
+    go (w, b, d, u, s) = record {
+      whole = wholeTest-sound T w;
+      below = belowTest-sound N T b;
+      different = differentTest-sound T (wholeTest-sound T w) d;
+      unlike = unlikeTest-sound T u;
+      used = usedTest-sound N T s;
+    }
+
+pub otherwiseTest-complete : (N : ℕ) (T : List ℕ) → OtherwiseProper N T → So (otherwiseTest N T)
+unfolding otherwiseTest
+otherwiseTest-complete N T P =
+    and₅-complete (wholeTest T) (belowTest N T) (differentTest T) (unlikeTest T) (usedTest N T)
+    (wholeTest-complete T (P .whole)) (belowTest-complete N T (P .below)) (differentTest-complete T (P .different))
+    (unlikeTest-complete T (P .unlike)) (usedTest-complete N T (P .used))
+
+unfoldable pub properTest : ℕ → List ℕ → Bool
+unfolding otherwiseTest connectedTest
+properTest N T = otherwiseTest N T && connectedTest T
+
+pub properTest-sound : (N : ℕ) (T : List ℕ) → So (properTest N T) → Proper N T
+unfolding properTest
+properTest-sound N T t = record {
+  otherwise = otherwiseTest-sound N T (and-sound (otherwiseTest N T) (connectedTest T) t .0);
+  connected = connectedTest-sound T (and-sound (otherwiseTest N T) (connectedTest T) t .1);
+}
+
+pub properTest-complete : (N : ℕ) (T : List ℕ) → Proper N T → So (properTest N T)
+unfolding properTest
+properTest-complete N T P =
+    and-complete (otherwiseTest N T) (connectedTest T) (otherwiseTest-complete N T (P .otherwise))
+    (connectedTest-complete T (P .connected))
+
+unfoldable pub proper? : (N : ℕ) (T : List ℕ) → Dec (Proper N T)
+unfolding properTest
+proper? N T = decided (properTest N T) (properTest-sound N T) (properTest-complete N T)

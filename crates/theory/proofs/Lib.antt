@@ -1,0 +1,23 @@
+-- The theorems about the definitions of specs/, bottom up.
+pub mod Finite
+pub mod Counting
+pub mod Numbering
+pub mod Renaming
+pub mod Splitting
+pub mod Heart
+pub mod Centres
+pub mod Rows
+pub mod Unique
+pub mod SplitProper
+pub mod Carried
+pub mod Canonical
+pub mod Decide
+pub mod Determined
+pub mod Refusals
+pub mod Tiles
+pub mod Built
+pub mod Complete
+pub mod Sound
+pub mod Frames
+pub mod ReadingTests
+pub mod Examples

@@ -1,0 +1,114 @@
+-- None of the refusals 6 to 10 is given exactly if the mesh is proper.
+use Prim.Native.Nat.{ℕ, _*_, _/_, _%_, _≤_, _<_}
+use native.Mathlib.Omega.{arith}
+use native.Mathlib.Decide.{ℕ-discrete, decLt}
+use mathlib.Core.Path.{_≡_, refl, sym, _∙_}
+use mathlib.Core.Logic.{_≢_, _⊎_, inl, inr}
+use mathlib.Core.List.{List}
+use lib.ListN.{length}
+use Rattle.theory.specs.Mesh.{at, triangles, On, Same, Reach, OtherwiseProper, Proper}
+use Rattle.theory.specs.Refusals.{CornerNotBelow, EqualCorners, SameAsEarlier, InNoTriangle, NotConnected, Passed, meshRules}
+use Rattle.theory.proofs.Finite.{find-below}
+use Rattle.theory.proofs.Decide.{reach?}
+
+-- the vertex at a corner inside the list stands on the corner's triangle
+abbrev pub on-corner : (T : List ℕ) (c : ℕ) → c < length T → On T (c / 3) (at T c)
+on-corner T c l = record { corner = c; inside = l; triangle = refl; holds = refl }
+
+pub same-sym : {T S : List ℕ} {k l : ℕ} → Same T k S l → Same S l T k
+same-sym s = record { there = s .back; back = s .there }
+
+-- a vertex stands on a triangle only below the last
+pub on-below : {T : List ℕ} {k v : ℕ} → length T ≡ 3 * triangles T → On T k v → k < triangles T
+on-below whole o = omega (arith, o .inside, o .triangle)
+
+module _ (N : ℕ) (T : List ℕ) where
+  -- ---- passed, so proper
+
+  module _ (whole : length T ≡ 3 * triangles T) (passed : Passed (meshRules N T)) where
+    corners-below : (c : ℕ) → c < length T → at T c < N
+    unfolding Passed
+    corners-below c l = go (decLt (at T c) N)
+      where
+        go : Dec (at T c < N) → at T c < N
+        go (yes h) = h
+        go (no h) = absurd (passed .0 (c / 3) (record { v = at T c; corner = on-corner T c l; notBelow = omega arith }))
+
+    corners-different : (c d : ℕ) → c < length T → d < length T → c / 3 ≡ d / 3 → at T c ≡ at T d → c ≡ d
+    unfolding Passed
+    corners-different c d l m t e = go (ℕ-discrete c d)
+      where
+        go : Dec (c ≡ d) → c ≡ d
+        go (yes p) = p
+        go (no p) =
+            absurd (passed .1 .0 (d / 3) (record {
+              v = at T d;
+              one = record { corner = c; inside = l; triangle = t; holds = e };
+              other = on-corner T d m;
+              two = p;
+            }))
+
+    triangles-unlike : (j k : ℕ) → j < triangles T → k < triangles T → Same T j T k → j ≡ k
+    unfolding Passed
+    triangles-unlike j k l m s = go (decLt j k) (decLt k j)
+      where
+        go : Dec (j < k) → Dec (k < j) → j ≡ k
+        go (yes h) d = absurd (passed .1 .1 .0 k (record { earlier = j; before = h; inside = m; same = s }))
+        go (no h) (yes g) = absurd (passed .1 .1 .0 j (record { earlier = k; before = g; inside = l; same = same-sym s }))
+        go (no h) (no g) = omega arith
+
+    vertices-used : (v : ℕ) → v < N → (k : ℕ) × On T k v
+    unfolding Passed
+    vertices-used v l = go (find-below (length T) (λ c h. ℕ-discrete (at T c) v))
+      where
+        go : ((c : ℕ) × (c < length T) × (at T c ≡ v)) ⊎ ((c : ℕ) → c < length T → at T c ≡ v → ⊥) → (k : ℕ) × On T k v
+        go (inl (c, h, e)) = (c / 3, record { corner = c; inside = h; triangle = refl; holds = e })
+        go (inr none) =
+            absurd (passed .1 .1 .1 .0 v (record { inside = l; nowhere = λ k o. none (o .corner) (o .inside) (o .holds) }))
+
+    triangles-connected : (k : ℕ) → k < triangles T → Reach T 0 k
+    unfolding Passed
+    triangles-connected k l = go (reach? T 0 k)
+      where
+        go : Dec (Reach T 0 k) → Reach T 0 k
+        go (yes h) = h
+        go (no h) = absurd (passed .1 .1 .1 .1 .0 k (record { inside = l; apart = h }))
+
+    pub passed-proper : Proper N T
+    passed-proper = record {
+      otherwise = record {
+        whole = whole;
+        below = corners-below;
+        different = corners-different;
+        unlike = triangles-unlike;
+        used = vertices-used;
+      };
+      connected = triangles-connected;
+    }
+
+  -- ---- proper, so passed
+
+  module _ (P : Proper N T) where
+    none-not-below : (k : ℕ) → CornerNotBelow N T k → ⊥
+    none-not-below k f =
+        omega (arith, P .otherwise .below (f .corner .corner) (f .corner .inside), f .corner .holds, f .notBelow)
+
+    none-equal : (k : ℕ) → EqualCorners T k → ⊥
+    none-equal k f =
+        f .two (P .otherwise .different _ _ (f .one .inside) (f .other .inside)
+        (f .one .triangle ∙ sym (f .other .triangle)) (f .one .holds ∙ sym (f .other .holds)))
+
+    none-same : (k : ℕ) → SameAsEarlier T k → ⊥
+    none-same k f =
+        let before : f .earlier < k = f .before in
+        omega (arith, P .otherwise .unlike (f .earlier) k (omega (arith, f .inside)) (f .inside) (f .same))
+
+    none-unused : (v : ℕ) → InNoTriangle N T v → ⊥
+    none-unused v f = f .nowhere (P .otherwise .used v (f .inside) .0) (P .otherwise .used v (f .inside) .1)
+
+    none-apart : (k : ℕ) → NotConnected T k → ⊥
+    none-apart k f = f .apart (P .connected k (f .inside))
+
+    pub proper-passed : Passed (meshRules N T)
+    unfolding Passed
+    proper-passed = (none-not-below, (none-equal, (none-same, (none-unused, (none-apart, tt)))))

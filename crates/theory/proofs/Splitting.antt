@@ -1,0 +1,358 @@
+-- Laws of the splitting: which half-edges are on the same edge, the numbering of the edge vertices, the entries of the
+-- splitting, and which vertices stand on which of its triangles.
+use Prim.Native.Nat.{ℕ, zero, suc, _+_, _*_, _/_, _%_, _-_, _≤_, _<_, min, max}
+use native.Mathlib.Decide.{ℕ-discrete, decLt}
+use native.Mathlib.Nat.{add-zero}
+use native.Mathlib.Omega.{arith}
+use mathlib.Core.Path.{_≡_, refl, sym, ap, _∙_}
+use mathlib.Core.Logic.{_≢_, _⊎_, inl, inr}
+use mathlib.Core.Bool.{Bool, true, false, _&&_}
+use mathlib.Core.List.{List, _++_}
+use lib.Dec.{T as Passes, eqb, eqb→eq, eqb-refl}
+use lib.ListN.{length, length-append, List·getD-append}
+use lib.Seq.{getD-append-add}
+use Rattle.theory.specs.Counting.{count}
+use Rattle.theory.specs.Mesh.{at, triangles, On}
+use Rattle.theory.specs.Splitting.{next, lesser, greater, sameEdge, firstOn, isFirst, edges, edgeNo}
+use Rattle.theory.specs.Splitting.{four, fours, split}
+use Rattle.theory.proofs.Counting.{count-le, count-grows, count-injective, count-hit}
+use Rattle.theory.proofs.Counting.{firstFrom-le, firstFrom-passes, firstFrom-before}
+
+-- ---- general facts: pairs of numbers, tests, three cases
+
+-- two unordered pairs with the same lesser and the same greater number agree one way round or the other
+pair-ends : (a b c d : ℕ) → min a b ≡ min c d → max a b ≡ max c d → ((a ≡ c) × (b ≡ d)) ⊎ ((a ≡ d) × (b ≡ c))
+pair-ends a b c d p q = elim (ℕ-discrete a c) [ yes h ↦ inl (h, omega arith) | no h ↦ inr (omega arith, omega arith) ]
+
+-- both of two tests pass where their conjunction does
+passes-both : (a b : Bool) → Passes (a && b) → Passes a × Passes b
+passes-both true b t = (tt, t)
+passes-both false b t = absurd t
+
+-- and the other way round
+both-pass : (a b : Bool) → Passes a → Passes b → Passes (a && b)
+both-pass true b s t = t
+both-pass false b s t = s
+
+-- the test of equality passes at equal numbers
+eq→eqb : (m n : ℕ) → m ≡ n → Passes (eqb m n)
+eq→eqb m n e = rw e (eqb-refl n)
+
+-- what holds at 0, 1 and 2 holds below 3
+by-three : (P : ℕ → Type 0) → P 0 → P 1 → P 2 → (i : ℕ) → i < 3 → P i
+by-three P p q r zero b = p
+by-three P p q r (suc zero) b = q
+by-three P p q r (suc (suc zero)) b = r
+by-three P p q r (suc (suc (suc i))) b = absurd (omega arith)
+
+-- ---- corners of triangles, and of the four that each becomes
+
+-- corner 3j + i is of triangle j
+corner-triangle : (j i : ℕ) → i < 3 → (3 * j + i) / 3 ≡ j
+corner-triangle j i b = omega arith
+
+-- and its place there is i
+corner-place : (j i : ℕ) → i < 3 → (3 * j + i) % 3 ≡ i
+corner-place j i b = omega arith
+
+-- a corner is made up of its triangle and its place
+triangle-place : (c j : ℕ) → c / 3 ≡ j → 3 * j + c % 3 ≡ c
+triangle-place c j e = omega arith
+
+-- the corners of a triangle are inside the list
+corner-inside : (n j i : ℕ) → n ≡ 3 * (n / 3) → j < n / 3 → i < 3 → 3 * j + i < n
+corner-inside n j i whole l b = omega arith
+
+-- the edge across from corner i has the place suc i % 3: the edge that leaves the corner is another
+leaving-not-across : (i : ℕ) → i < 3 → i ≢ suc i % 3
+leaving-not-across i b = omega arith
+
+-- so is the edge that enters it
+entering-not-across : (i : ℕ) → i < 3 → (i + 2) % 3 ≢ suc i % 3
+entering-not-across i b = omega arith
+
+-- and an edge that is not across from corner i leaves it or enters it
+not-across : (i k : ℕ) → i < 3 → k < 3 → k ≢ suc i % 3 → (k ≡ i) ⊎ (k ≡ (i + 2) % 3)
+not-across i k b l d = elim (ℕ-discrete k i) [ yes e ↦ inl e | no e ↦ inr (omega arith) ]
+
+-- what stands at corner c of triangle t of a splitting: an edge vertex of a centre, or, in the triangle of the coarse
+-- corner i, that corner, the vertex on the edge that leaves it or the vertex on the edge that enters it
+data Place (t c : ℕ) : Type 0 where
+  centre : (i : ℕ) → i < 3 → t % 4 ≡ 0 → c ≡ 12 * (t / 4) + i → Place t c
+  corner : (i : ℕ) → i < 3 → suc i ≡ t % 4 → c ≡ 12 * (t / 4) + (3 * i + 3) → Place t c
+  leaving : (i : ℕ) → i < 3 → suc i ≡ t % 4 → c ≡ 12 * (t / 4) + (3 * i + 4) → Place t c
+  entering : (i : ℕ) → i < 3 → suc i ≡ t % 4 → c ≡ 12 * (t / 4) + (3 * i + 5) → Place t c
+
+-- each corner has one of these places
+place-of : (t c : ℕ) → c / 3 ≡ t → Place t c
+place-of t c e = go (t % 4) refl (c % 3) refl
+  where
+    go : (m : ℕ) → t % 4 ≡ m → (k : ℕ) → c % 3 ≡ k → Place t c
+    go zero p k q = centre k (omega arith) p (omega arith)
+    go (suc i) p zero q = corner i (omega arith) (sym p) (omega arith)
+    go (suc i) p (suc zero) q = leaving i (omega arith) (sym p) (omega arith)
+    go (suc i) p (suc (suc zero)) q = entering i (omega arith) (sym p) (omega arith)
+    go (suc i) p (suc (suc (suc k))) q = absurd (omega arith)
+
+-- ---- half-edges on the same edge
+
+-- half-edges g and h have the same two ends
+pub record SameEdge (T : List ℕ) (g h : ℕ) : Type 0 where
+  pub low : lesser T g ≡ lesser T h
+  pub high : greater T g ≡ greater T h
+
+-- being on the same edge is an equivalence
+pub sameEdge-refl : (T : List ℕ) (h : ℕ) → SameEdge T h h
+sameEdge-refl T h = record { low = refl; high = refl }
+
+pub sameEdge-sym : {T : List ℕ} {g h : ℕ} → SameEdge T g h → SameEdge T h g
+sameEdge-sym e = record { low = sym (e .low); high = sym (e .high) }
+
+pub sameEdge-trans : {T : List ℕ} {f g h : ℕ} → SameEdge T f g → SameEdge T g h → SameEdge T f h
+sameEdge-trans d e = record { low = d .low ∙ e .low; high = d .high ∙ e .high }
+
+-- the two ends agree one way round or the other
+pub sameEdge-ends : {T : List ℕ} {g h : ℕ} → SameEdge T g h
+    → ((at T g ≡ at T h) × (at T (next g) ≡ at T (next h))) ⊎ ((at T g ≡ at T (next h)) × (at T (next g) ≡ at T h))
+sameEdge-ends {T} {g} {h} e = pair-ends (at T g) (at T (next g)) (at T h) (at T (next h)) (e .low) (e .high)
+
+-- half-edges with the same ends are on the same edge
+pub ends-sameEdge : (T : List ℕ) (g h : ℕ) → at T g ≡ at T h → at T (next g) ≡ at T (next h) → SameEdge T g h
+ends-sameEdge T g h p q = record { low = omega arith; high = omega arith }
+
+-- also where they run opposite ways
+pub ends-sameEdge-crossed : (T : List ℕ) (g h : ℕ) → at T g ≡ at T (next h) → at T (next g) ≡ at T h → SameEdge T g h
+ends-sameEdge-crossed T g h p q = record { low = omega arith; high = omega arith }
+
+-- ---- the first appearance of an edge
+
+module _ (T : List ℕ) where
+  -- half-edges that pass the test are on the same edge
+  passes-sameEdge : (g h : ℕ) → Passes (sameEdge T h g) → SameEdge T g h
+  unfolding sameEdge
+  passes-sameEdge g h t =
+      let p = passes-both (eqb (lesser T g) (lesser T h)) (eqb (greater T g) (greater T h)) t in
+      record { low = eqb→eq (lesser T g) (lesser T h) (p .0); high = eqb→eq (greater T g) (greater T h) (p .1) }
+
+  -- and those on the same edge pass it
+  sameEdge-passes : (g h : ℕ) → SameEdge T g h → Passes (sameEdge T h g)
+  unfolding sameEdge
+  sameEdge-passes g h e = both-pass (eqb (lesser T g) (lesser T h)) (eqb (greater T g) (greater T h))
+      (eq→eqb (lesser T g) (lesser T h) (e .low)) (eq→eqb (greater T g) (greater T h) (e .high))
+
+  -- the first appearance is not later
+  firstOn-le : (h : ℕ) → firstOn T h ≤ h
+  unfolding firstOn
+  firstOn-le h = omega (arith, firstFrom-le (sameEdge T h) 0 h)
+
+  -- the first appearance is on the edge
+  firstOn-same : (h : ℕ) → SameEdge T (firstOn T h) h
+  unfolding firstOn
+  firstOn-same h = elim (decLt (firstOn T h) h) [ yes l ↦ before l | no l ↦ itself l ]
+    where
+      before : firstOn T h < h → SameEdge T (firstOn T h) h
+      before l = passes-sameEdge (firstOn T h) h (firstFrom-passes (sameEdge T h) 0 h (omega arith))
+
+      itself : ¬ (firstOn T h < h) → SameEdge T (firstOn T h) h
+      itself l =
+          let e : firstOn T h ≡ h = omega (arith, firstOn-le h) in
+          rw e (sameEdge-refl T h)
+
+  -- no half-edge before the first appearance is on the edge
+  firstOn-least : (g h : ℕ) → SameEdge T g h → firstOn T h ≤ g
+  unfolding firstOn
+  firstOn-least g h e = elim (decLt g (firstOn T h)) [
+    | yes l ↦ absurd (firstFrom-before (sameEdge T h) 0 h g (omega arith) l (sameEdge-passes g h e))
+    | no l ↦ omega arith
+  ]
+
+  -- the half-edges of one edge have one first appearance
+  firstOn-cong : (g h : ℕ) → SameEdge T g h → firstOn T g ≡ firstOn T h
+  firstOn-cong g h e = omega (
+    arith,
+    firstOn-least (firstOn T g) h (sameEdge-trans (firstOn-same g) e),
+    firstOn-least (firstOn T h) g (sameEdge-trans (firstOn-same h) (sameEdge-sym e)),
+  )
+
+  -- a first appearance is the first appearance of its own edge
+  firstOn-isFirst : (h : ℕ) → Passes (isFirst T (firstOn T h))
+  unfolding isFirst
+  firstOn-isFirst h = eq→eqb (firstOn T (firstOn T h)) (firstOn T h) (firstOn-cong (firstOn T h) h (firstOn-same h))
+
+  -- what passes the test is its own first appearance
+  isFirst-firstOn : (h : ℕ) → Passes (isFirst T h) → firstOn T h ≡ h
+  unfolding isFirst
+  isFirst-firstOn h t = eqb→eq (firstOn T h) h t
+
+-- ---- the numbers of the edge vertices
+
+module _ (N : ℕ) (T : List ℕ) where
+  -- one edge, one number
+  pub edgeNo-same : (g h : ℕ) → SameEdge T g h → edgeNo N T g ≡ edgeNo N T h
+  unfolding edgeNo
+  edgeNo-same g h e = ap (λ f. N + count (isFirst T) f) (firstOn-cong T g h e)
+
+  -- one number, one edge
+  pub edgeNo-injective : (g h : ℕ) → edgeNo N T g ≡ edgeNo N T h → SameEdge T g h
+  unfolding edgeNo
+  edgeNo-injective g h e = sameEdge-trans (sameEdge-sym (firstOn-same T g)) (rw (← first) at (firstOn-same T h))
+    where
+      first : firstOn T g ≡ firstOn T h
+      first = count-injective (isFirst T) (firstOn T g) (firstOn T h) (firstOn-isFirst T g) (firstOn-isFirst T h)
+          (omega arith)
+
+  -- the numbers of the edges are N and above
+  pub edgeNo-above : (h : ℕ) → N ≤ edgeNo N T h
+  unfolding edgeNo
+  edgeNo-above h = omega arith
+
+  -- and below N + edges T
+  pub edgeNo-below : (h : ℕ) → h < length T → edgeNo N T h < N + edges T
+  unfolding edgeNo edges
+  edgeNo-below h l =
+      let f : firstOn T h < length T = omega (arith, firstOn-le T h) in
+      omega (arith, count-grows (isFirst T) (firstOn T h) (length T) f (firstOn-isFirst T h))
+
+  -- each of these numbers is that of an edge
+  pub edgeNo-hit : (e : ℕ) → N ≤ e → e < N + edges T → (h : ℕ) × (h < length T) × (edgeNo N T h ≡ e)
+  unfolding edgeNo edges
+  edgeNo-hit e a l = go (count-hit (isFirst T) (length T) (e - N) (omega arith))
+    where
+      go : (i : ℕ) × (i < length T) × Passes (isFirst T i) × (count (isFirst T) i ≡ e - N)
+          → (h : ℕ) × (h < length T) × (edgeNo N T h ≡ e)
+      go (i, b, t, c) = (i, b, rw (isFirst-firstOn T i t) (omega arith))
+
+  -- there are no more edges than half-edges
+  pub edges-le : edges T ≤ length T
+  unfolding edges
+  edges-le = count-le (isFirst T) (length T)
+
+  -- ---- the entries of the splitting
+
+  -- each triangle gives twelve entries
+  fours-length : (k : ℕ) → length (fours N T k) ≡ 12 * k
+  unfolding fours four
+  fours-length zero = refl
+  fours-length (suc k) = simp length-append (omega (arith, fours-length k))
+
+  -- the twelve of triangle j stand from 12j on
+  fours-at : (k j m : ℕ) → j < k → m < 12 → at (fours N T k) (12 * j + m) ≡ at (four N T j) m
+  unfolding fours
+  fours-at zero j m l b = absurd (omega arith)
+  fours-at (suc k) j m l b = elim (decLt j k) [ yes h ↦ earlier h (fours-at k j m h b) | no h ↦ last h ]
+    where
+      earlier : j < k → at (fours N T k) (12 * j + m) ≡ at (four N T j) m
+          → at (fours N T k ++ four N T k) (12 * j + m) ≡ at (four N T j) m
+      earlier h e =
+          let f : 12 * j + m < length (fours N T k) = omega (arith, fours-length k) in
+          List·getD-append (fours N T k) (four N T k) 0 (12 * j + m) f ∙ e
+
+      last : ¬ (j < k) → at (fours N T k ++ four N T k) (12 * j + m) ≡ at (four N T j) m
+      last h =
+          let e : 12 * j + m ≡ length (fours N T k) + m = omega (arith, fours-length k) in
+          let f : k ≡ j = omega arith in
+          rw (e, getD-append-add, f)
+
+  -- so the splitting has twelve entries for each triangle
+  pub split-length : length (split N T) ≡ 12 * triangles T
+  unfolding split
+  split-length = fours-length (triangles T)
+
+  -- which make four triangles
+  pub split-triangles : triangles (split N T) ≡ 4 * triangles T
+  split-triangles = omega (arith, split-length)
+
+  -- triangle 4j is (e12, e23, e31)
+  pub split-centre : (j i : ℕ) → j < triangles T → i < 3 → at (split N T) (12 * j + i) ≡ edgeNo N T (3 * j + i)
+  unfolding split four
+  split-centre j i l b = fours-at (triangles T) j i l (omega arith)
+      ∙ by-three (λ m. at (four N T j) m ≡ edgeNo N T (3 * j + m)) (rw add-zero) refl refl i b
+
+  -- triangle 4j + 1 + i is (the coarse corner i, the vertex on the edge that leaves it, the vertex on the edge that
+  -- enters it): its first corner
+  pub split-corner : (j i : ℕ) → j < triangles T → i < 3 → at (split N T) (12 * j + (3 * i + 3)) ≡ at T (3 * j + i)
+  unfolding split four
+  split-corner j i l b = fours-at (triangles T) j (3 * i + 3) l (omega arith)
+      ∙ by-three (λ m. at (four N T j) (3 * m + 3) ≡ at T (3 * j + m)) (rw add-zero) refl refl i b
+
+  -- its second corner
+  pub split-leaving : (j i : ℕ) → j < triangles T → i < 3
+      → at (split N T) (12 * j + (3 * i + 4)) ≡ edgeNo N T (3 * j + i)
+  unfolding split four
+  split-leaving j i l b = fours-at (triangles T) j (3 * i + 4) l (omega arith)
+      ∙ by-three (λ m. at (four N T j) (3 * m + 4) ≡ edgeNo N T (3 * j + m)) (rw add-zero) refl refl i b
+
+  -- its third corner
+  pub split-entering : (j i : ℕ) → j < triangles T → i < 3
+      → at (split N T) (12 * j + (3 * i + 5)) ≡ edgeNo N T (3 * j + (i + 2) % 3)
+  unfolding split four
+  split-entering j i l b = fours-at (triangles T) j (3 * i + 5) l (omega arith)
+      ∙ by-three (λ m. at (four N T j) (3 * m + 5) ≡ edgeNo N T (3 * j + (m + 2) % 3)) refl (rw add-zero) refl i b
+
+  -- ---- the vertices of the splitting's triangles
+
+  -- vertex v stands on triangle t of the splitting, by t / 4 (the coarse triangle) and t % 4 (0: the centre): it is
+  -- the edge vertex of a half-edge h of the coarse triangle (in triangle 4j + m with m not 0 the edge of index m % 3
+  -- is missing), or the coarse vertex at corner m - 1
+  pub data OnSplit (t v : ℕ) : Type 0 where
+    edge : (h : ℕ) → h < length T → h / 3 ≡ t / 4 → (t % 4 ≡ 0) ⊎ (h % 3 ≢ t % 4 % 3) → edgeNo N T h ≡ v → OnSplit t v
+    coarse : (c : ℕ) → c < length T → c / 3 ≡ t / 4 → suc (c % 3) ≡ t % 4 → at T c ≡ v → OnSplit t v
+
+  -- the edge of place k of the coarse triangle
+  edge-onSplit : length T ≡ 3 * triangles T → (t k v : ℕ) → t / 4 < triangles T → k < 3 → (t % 4 ≡ 0) ⊎ (k ≢ t % 4 % 3)
+      → edgeNo N T (3 * (t / 4) + k) ≡ v → OnSplit t v
+  edge-onSplit whole t k v l b d e = edge (3 * (t / 4) + k) (corner-inside (length T) (t / 4) k whole l b)
+      (corner-triangle (t / 4) k b) (rw (corner-place (t / 4) k b) d) e
+
+  -- the coarse corner of place i
+  coarse-onSplit : length T ≡ 3 * triangles T → (t i v : ℕ) → t / 4 < triangles T → i < 3 → suc i ≡ t % 4
+      → at T (3 * (t / 4) + i) ≡ v → OnSplit t v
+  coarse-onSplit whole t i v l b m e = coarse (3 * (t / 4) + i) (corner-inside (length T) (t / 4) i whole l b)
+      (corner-triangle (t / 4) i b) (rw (corner-place (t / 4) i b) m) e
+
+  -- whatever stands on triangle t of the splitting is one of these
+  pub on-split : length T ≡ 3 * triangles T → (t v : ℕ) → On (split N T) t v → OnSplit t v
+  on-split whole t v o = go (place-of t (o .corner) (o .triangle))
+    where
+      inside : t / 4 < triangles T
+      inside = omega (arith, o .inside, o .triangle, split-length)
+
+      entry : (c : ℕ) → o .corner ≡ c → at (split N T) c ≡ v
+      entry c e = rw e at (o .holds)
+
+      go : Place t (o .corner) → OnSplit t v
+      go (centre i b m e) =
+          edge-onSplit whole t i v inside b (inl m) (sym (split-centre (t / 4) i inside b) ∙ entry _ e)
+      go (corner i b m e) = coarse-onSplit whole t i v inside b m (sym (split-corner (t / 4) i inside b) ∙ entry _ e)
+      go (leaving i b m e) = edge-onSplit whole t i v inside b (inr (rw (← m) (leaving-not-across i b)))
+          (sym (split-leaving (t / 4) i inside b) ∙ entry _ e)
+      go (entering i b m e) =
+          edge-onSplit whole t ((i + 2) % 3) v inside (omega arith) (inr (rw (← m) (entering-not-across i b)))
+          (sym (split-entering (t / 4) i inside b) ∙ entry _ e)
+
+  -- an entry of the splitting stands on its triangle
+  entry-on : (c t v : ℕ) → c / 3 ≡ t → t / 4 < triangles T → at (split N T) c ≡ v → On (split N T) t v
+  entry-on c t v e l h = record { corner = c; inside = omega (arith, split-length); triangle = e; holds = h }
+
+  -- the vertex on the edge of place k stands on the centre and on the triangles of the edge's two ends
+  edge-on-split : (t k v : ℕ) → t / 4 < triangles T → k < 3 → (t % 4 ≡ 0) ⊎ (k ≢ t % 4 % 3)
+      → edgeNo N T (3 * (t / 4) + k) ≡ v → On (split N T) t v
+  edge-on-split t k v l b d e = go (t % 4) refl d
+    where
+      outer : (i : ℕ) → suc i ≡ t % 4 → (k ≡ i) ⊎ (k ≡ (i + 2) % 3) → On (split N T) t v
+      outer i m (inl p) = entry-on (12 * (t / 4) + (3 * i + 4)) t v (omega arith) l
+          (split-leaving (t / 4) i l (omega arith) ∙ rw (← p) e)
+      outer i m (inr p) = entry-on (12 * (t / 4) + (3 * i + 5)) t v (omega arith) l
+          (split-entering (t / 4) i l (omega arith) ∙ rw (← p) e)
+
+      go : (m : ℕ) → t % 4 ≡ m → (m ≡ 0) ⊎ (k ≢ m % 3) → On (split N T) t v
+      go zero m c = entry-on (12 * (t / 4) + k) t v (omega arith) l (split-centre (t / 4) k l b ∙ e)
+      go (suc i) m (inl z) = absurd (omega arith)
+      go (suc i) m (inr c) = outer i (sym m) (not-across i k (omega arith) b c)
+
+  -- and each of these stands there
+  pub split-on : length T ≡ 3 * triangles T → (t v : ℕ) → OnSplit t v → On (split N T) t v
+  split-on whole t v (edge h l k d e) =
+      edge-on-split t (h % 3) v (omega arith) (omega arith) d (ap (edgeNo N T) (triangle-place h (t / 4) k) ∙ e)
+  split-on whole t v (coarse c l k m e) = entry-on (12 * (t / 4) + (3 * (c % 3) + 3)) t v (omega arith) (omega arith)
+      (split-corner (t / 4) (c % 3) (omega arith) (omega arith) ∙ ap (at T) (triangle-place c (t / 4) k) ∙ e)

@@ -1,0 +1,29 @@
+-- The sizes that document 01 names, each once. The code's limits type is tied to these by contracts.
+use Prim.Native.Nat.{ℕ}
+
+-- refusal 4: "F above 16,384"
+abbrev pub mostTriangles : ℕ
+mostTriangles = 16384
+
+-- refusal 4: "split: above 4,096"
+abbrev pub mostSplitTriangles : ℕ
+mostSplitTriangles = 4096
+
+-- refusal 4: "or V above 32,767"
+abbrev pub mostVertices : ℕ
+mostVertices = 32767
+
+-- "Asked at most 0 to 7 levels", "kept in seven places of the answer"
+abbrev pub mostLevels : ℕ
+mostLevels = 7
+
+-- refusal 13: "program input above 16,384 bytes"
+abbrev pub mostBytes : ℕ
+mostBytes = 16384
+
+-- the program "has room for 1,024 triangles and 1,026 vertices"
+abbrev pub programTriangles : ℕ
+programTriangles = 1024
+
+abbrev pub programVertices : ℕ
+programVertices = 1026

@@ -1,0 +1,118 @@
+-- Document 01, "Refusals by number": the table, row by row, and which row a call gives.
+use Prim.Native.Nat.{ℕ, _+_, _*_, _%_, _≤_, _<_}
+use mathlib.Core.Path.{_≡_}
+use mathlib.Core.Logic.{_≢_, _⊎_}
+use mathlib.Core.List.{List, [], _∷_}
+use lib.ListN.{length}
+use Rattle.theory.specs.Limits.{mostVertices}
+use Rattle.theory.specs.Mesh.{at, triangles, On, Same, Reach}
+use Rattle.theory.specs.Choice.{NoneChosen}
+
+-- A row of the table: its number, and at which places it is given.
+pub record Rule : Type 1 where
+  pub number : ℕ
+  pub given : ℕ → Type 0
+
+-- "Place is 0 unless named."
+abbrev pub noPlace : Type 0 → ℕ → Type 0
+noPlace condition place = condition × (place ≡ 0)
+
+-- ---- room
+
+-- A lent buffer: how many entries it has and how many are needed.
+pub record Room : Type 0 where
+  pub lent : ℕ
+  pub needed : ℕ
+
+-- "a lent buffer shorter than needed".
+unfoldable pub Short : List Room → Type 0
+Short [] = ⊥
+Short (room ∷ rooms) = (room .lent < room .needed) ⊎ Short rooms
+
+-- ---- the rows
+
+abbrev pub askedTooMuch : ℕ → ℕ → Rule
+askedTooMuch most asked = record { number = 1; given = noPlace (most < asked) }
+
+abbrev pub notThrees : List ℕ → Rule
+notThrees T = record { number = 2; given = noPlace (length T % 3 ≢ 0) }
+
+abbrev pub noTriangle : List ℕ → Rule
+noTriangle T = record { number = 3; given = noPlace (triangles T ≡ 0) }
+
+abbrev pub tooLarge : ℕ → ℕ → ℕ → Rule
+tooLarge most N F = record { number = 4; given = noPlace ((most < F) ⊎ (mostVertices < N)) }
+
+abbrev pub tooShort : List Room → Rule
+tooShort rooms = record { number = 5; given = noPlace (Short rooms) }
+
+-- "a corner not below V": triangle k has one.
+pub record CornerNotBelow (N : ℕ) (T : List ℕ) (k : ℕ) : Type 0 where
+  pub v : ℕ
+  pub corner : On T k v
+  pub notBelow : N ≤ v
+
+abbrev pub cornerNotBelow : ℕ → List ℕ → Rule
+cornerNotBelow N T = record { number = 6; given = CornerNotBelow N T }
+
+-- "two equal corners": triangle k has two.
+pub record EqualCorners (T : List ℕ) (k : ℕ) : Type 0 where
+  pub v : ℕ
+  pub one : On T k v
+  pub other : On T k v
+  pub two : one .corner ≢ other .corner
+
+abbrev pub equalCorners : List ℕ → Rule
+equalCorners T = record { number = 7; given = EqualCorners T }
+
+-- "same as an earlier triangle": triangle k is.
+pub record SameAsEarlier (T : List ℕ) (k : ℕ) : Type 0 where
+  pub earlier : ℕ
+  pub before : earlier < k
+  pub inside : k < triangles T
+  pub same : Same T earlier T k
+
+abbrev pub sameAsEarlier : List ℕ → Rule
+sameAsEarlier T = record { number = 8; given = SameAsEarlier T }
+
+-- "a vertex in no triangle": vertex v.
+pub record InNoTriangle (N : ℕ) (T : List ℕ) (v : ℕ) : Type 0 where
+  pub inside : v < N
+  pub nowhere : (k : ℕ) → On T k v → ⊥
+
+abbrev pub inNoTriangle : ℕ → List ℕ → Rule
+inNoTriangle N T = record { number = 9; given = InNoTriangle N T }
+
+-- "not connected to triangle 0": triangle k.
+pub record NotConnected (T : List ℕ) (k : ℕ) : Type 0 where
+  pub inside : k < triangles T
+  pub apart : Reach T 0 k → ⊥
+
+abbrev pub notConnected : List ℕ → Rule
+notConnected T = record { number = 10; given = NotConnected T }
+
+abbrev pub noReading : ℕ → List ℕ → ℕ → Rule
+noReading N T asked = record { number = 11; given = noPlace (NoneChosen N T asked) }
+
+-- The rows that judge the mesh itself, 6 to 10, in their order.
+abbrev pub meshRules : ℕ → List ℕ → List Rule
+meshRules N T = cornerNotBelow N T ∷ equalCorners T ∷ sameAsEarlier T ∷ inNoTriangle N T ∷ notConnected T ∷ []
+
+-- ---- which row is given
+
+-- "least triangle", "least vertex": the least place at which a row is given.
+pub record LeastPlace (given : ℕ → Type 0) (place : ℕ) : Type 0 where
+  pub here : given place
+  pub before : (earlier : ℕ) → earlier < place → given earlier → ⊥
+
+-- No row of the list is given, at any place.
+unfoldable pub Passed : List Rule → Type 0
+Passed [] = Unit {0}
+Passed (rule ∷ rules) = ((place : ℕ) → rule .given place → ⊥) × Passed rules
+
+-- "Checked in this order": the first row that is given has the number, at its least place.
+unfoldable pub Refused : List Rule → ℕ → ℕ → Type 0
+Refused [] number place = ⊥
+Refused (rule ∷ rules) number place =
+    ((number ≡ rule .number) × LeastPlace (rule .given) place)
+    ⊎ (((earlier : ℕ) → rule .given earlier → ⊥) × Refused rules number place)
