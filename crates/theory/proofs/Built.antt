@@ -1,14 +1,15 @@
--- What an undo builds from the start tile, and what it tests: two records that the code's contracts end in. Where a returned
--- reading exists, what is built is that reading (complete); what passes every test is the returned reading (sound).
-use Prim.Native.Nat.{ℕ, suc, _+_, _*_, _/_, _%_, _≤_, _<_}
+-- What an undo builds from the start tile, and what it tests: two records that the code's contracts end in. Where a
+-- returned reading exists, what is built is that reading (complete); what passes every test is the returned reading
+-- (sound).
+use Prim.Native.Nat.{ℕ, suc, _+_, _*_, _%_, _<_}
 use mathlib.Core.Path.{_≡_}
 use mathlib.Core.Logic.{_≢_}
 use mathlib.Core.List.{List}
 use lib.ListN.{length}
-use Rattle.theory.specs.Mesh.{at, triangles, On, HasEdge, Same, Reach, Proper}
+use Rattle.theory.specs.Mesh.{at, triangles, HasEdge, Same, Reach}
 use Rattle.theory.specs.Splitting.{edges, edgeNo, split}
-use Rattle.theory.specs.Reading.{Reading, Kept, Centre, Returned, renamed}
-use Rattle.theory.proofs.Tiles.{Covering, IsTile, Start, InRow}
+use Rattle.theory.specs.Reading.{renamed}
+use Rattle.theory.proofs.Tiles.{InRow}
 
 -- the reached rows numbered upward (`tile`) up to F, and their vertices numbered upward (`rank`) up to M
 pub record Ranked (N : ℕ) (T W : List ℕ) (s M F : ℕ) (rank tile : List ℕ) : Type 0 where
@@ -25,8 +26,9 @@ pub record Built (N : ℕ) (T W : List ℕ) (s M : ℕ) (C rank tile : List ℕ)
   pub whole : length C ≡ 3 * triangles C
   pub rows : (k i : ℕ) → Reach W s k → i < 3 → at C (3 * at tile k + i) ≡ at rank (at W (3 * k + i))
 
--- the tests that are passed: the counts; each vertex has exactly one number (`kept`, `between`) and each triangle is claimed
--- exactly once (`centres`, `corners`); and every triangle agrees, under the maps, with its triangle of the splitting
+-- the tests that are passed: the counts; each vertex has exactly one number (`kept`, `between`) and each triangle is
+-- claimed exactly once (`centres`, `corners`); and every triangle agrees, under the maps, with its triangle of the
+-- splitting
 pub record Found (N : ℕ) (T W : List ℕ) (s M : ℕ) (C rank tile vm tm : List ℕ) : Type 0 where
   pub quarter : triangles T ≡ 4 * triangles C
   pub count : N ≡ M + edges C

@@ -3,33 +3,24 @@
 use Prim.Native.Nat.{ℕ, _+_, _*_, _/_, _%_, _<_}
 use native.Mathlib.Decide.{decLt}
 use native.Mathlib.Omega.{arith}
-use mathlib.Core.Path.{_≡_, refl, sym, ap, _∙_, subst, subst₂}
+use mathlib.Core.Path.{_≡_, refl, sym, ap, _∙_, subst₂}
 use mathlib.Core.Bool.{Bool}
 use mathlib.Core.List.{List}
-use lib.Dec.{T as Passes, ltb, eqb, ltb→lt, lt→ltb, eqb→eq, eqb-refl}
+use lib.Dec.{T as Passes, ltb, eqb, ltb→lt, lt→ltb, eqb→eq}
 use lib.ListN.{length}
 use Rattle.theory.specs.Counting.{count}
 use Rattle.theory.specs.Mesh.{at, triangles, On, Same, OtherwiseProper, Proper}
-use Rattle.theory.specs.Reading.{
-  Match,
-  Matched,
-  renamed,
-  Reading,
-  IsReading,
-  Kept,
-  Centre,
-  RoleOf,
-  ReadingIn,
-  Returned,
-}
+use Rattle.theory.specs.Reading.{Matched, Reading, IsReading, Kept, Centre, RoleOf, ReadingIn, Returned}
+use Rattle.theory.proofs.Tests.{eq→eqb}
 use Rattle.theory.proofs.Finite.{composed, composed-at}
 use Rattle.theory.proofs.Counting.{count-grows}
 use Rattle.theory.proofs.Splitting.{split-triangles}
-use Rattle.theory.proofs.Centres.{kept-numbers, centre-numbers}
 use Rattle.theory.proofs.Carried.{Carries, carried, matched-proper}
 use Rattle.theory.proofs.Numbering.{listed, Numbers, Renumbers, numbers-matched, count-numbers}
-use Rattle.theory.proofs.Renaming.{on-renamed, renamed-on, matched-composed}
-use Rattle.theory.proofs.Rows.{Opposite, opposite-exists, opposite-unique, opposite-coarse, opposite-hit}
+use Rattle.theory.proofs.Renaming.{renumbers-matched, matched-composed}
+use Rattle.theory.proofs.Mesh.{on-place}
+use Rattle.theory.proofs.Centres.{coarseOf, kept-numbers, centre-numbers}
+use Rattle.theory.proofs.Rows.{Opposite, opposite-exists, opposite-unique, opposite-same}
 
 -- ---- upward numbers
 
@@ -52,7 +43,7 @@ kept-passes : (r : Reading) (v : ℕ) → Kept r v → Passes (kept? r v)
 kept-passes r v q = lt→ltb (at (r .vertexMap) v) (r .vertices) (q .coarse)
 
 centre-passes : (r : Reading) (k : ℕ) → Centre r k → Passes (centre? r k)
-centre-passes r k q = subst (λ x. Passes (eqb x 0)) (sym (q .fourth)) (eqb-refl 0)
+centre-passes r k q = eq→eqb (at (r .triangleMap) k % 4) 0 (q .fourth)
 
 -- x is the rank of the kept vertex opposite corner i of triangle k
 abbrev RowEntry : List ℕ → Reading → ℕ → ℕ → ℕ → Type 0
@@ -91,7 +82,7 @@ module _ (N : ℕ) (T : List ℕ) (P : OtherwiseProper N T) (r : Reading) (R : I
   newVertex = keptMatch .list
 
   -- and of centres
-  centreMatch : Renumbers (Centre r) (λ k. at (r .triangleMap) k / 4) (triangles (r .mesh)) (centreRank r)
+  centreMatch : Renumbers (Centre r) (coarseOf r) (triangles (r .mesh)) (centreRank r)
       (centreRank r (triangles T))
   centreMatch = numbers-matched (centre-numbers N T P r R) centre-ranked
 
@@ -142,43 +133,27 @@ module _ (N : ℕ) (T : List ℕ) (P : OtherwiseProper N T) (r : Reading) (R : I
   module _ (C′ : List ℕ) (W : Rows T r C′) where
     -- ---- the coarse mesh matched onto the rows
 
-    -- a vertex of the coarse triangle goes to one of the row
-    agreed-there : (k v : ℕ) → Centre r k → On (renamed newVertex (r .mesh)) (at (r .triangleMap) k / 4) v
-        → On C′ (centreRank r k) v
-    agreed-there k v q o = coarse (renamed-on newVertex o)
+    -- the row has the rank of each vertex opposite
+    row-there : (k i w : ℕ) → Centre r k → i < 3 → Kept r w → Opposite T k i w
+        → On C′ (centreRank r k) (vertexRank r w)
+    row-there k i w q b p o = entry (W .row k i q b)
       where
-        entry : (i w : ℕ) → i < 3 → Kept r w → Opposite T k i w → vertexRank r w ≡ v
-            → RowEntry T r k i (at C′ (3 * centreRank r k + i)) → On C′ (centreRank r k) v
-        entry i w b p o e (x, p′, o′, h) = record {
+        entry : RowEntry T r k i (at C′ (3 * centreRank r k + i)) → On C′ (centreRank r k) (vertexRank r w)
+        entry (x, p′, o′, h) = record {
           corner = 3 * centreRank r k + i;
           inside = omega (arith, W .long, centre-ranked .below k q);
           triangle = omega arith;
-          holds = h ∙ ap (vertexRank r) (opposite-unique N T P r R k i x w q b o′ o) ∙ e;
+          holds = h ∙ ap (vertexRank r) (opposite-unique N T P r R k i x w q b o′ o);
         }
 
-        row : (y : ℕ) → at newVertex y ≡ v
-            → (i : ℕ) × (i < 3) × (w : ℕ) × Kept r w × Opposite T k i w × (at (r .vertexMap) w ≡ y)
-            → On C′ (centreRank r k) v
-        row y e (i, b, w, p, o, d) =
-            entry i w b p o (sym (keptMatch .sends w p) ∙ ap (at newVertex) d ∙ e) (W .row k i q b)
-
-        coarse : (y : ℕ) × On (r .mesh) (at (r .triangleMap) k / 4) y × (at newVertex y ≡ v) → On C′ (centreRank r k) v
-        coarse (y, o, e) = row y e (opposite-hit N T P r R k y q o)
-
-    -- and each vertex of the row comes from one
-    agreed-back : (k v : ℕ) → Centre r k → On C′ (centreRank r k) v
-        → On (renamed newVertex (r .mesh)) (at (r .triangleMap) k / 4) v
-    agreed-back k v q o = entry (W .row k (o .corner % 3) q (omega arith))
+    -- and no others
+    row-back : (k y : ℕ) → Centre r k → On C′ (centreRank r k) y
+        → (i : ℕ) × (i < 3) × (w : ℕ) × Kept r w × Opposite T k i w × (vertexRank r w ≡ y)
+    row-back k y q o = entry (W .row k (o .corner % 3) q (omega arith))
       where
-        place : 3 * centreRank r k + o .corner % 3 ≡ o .corner
-        place = omega arith
-
         entry : RowEntry T r k (o .corner % 3) (at C′ (3 * centreRank r k + o .corner % 3))
-            → On (renamed newVertex (r .mesh)) (at (r .triangleMap) k / 4) v
-        entry (w, p, s, e) =
-            subst (On (renamed newVertex (r .mesh)) (at (r .triangleMap) k / 4))
-            (keptMatch .sends w p ∙ sym e ∙ ap (at C′) place ∙ o .holds)
-            (on-renamed newVertex (opposite-coarse N T P r R k (o .corner % 3) w q (omega arith) s))
+            → (i : ℕ) × (i < 3) × (w : ℕ) × Kept r w × Opposite T k i w × (vertexRank r w ≡ y)
+        entry (w, p, s, e) = (o .corner % 3, omega arith, w, p, s, sym e ∙ on-place o)
 
     -- there is a row for each centre
     rows-triangles : triangles C′ ≡ centreRank r (triangles T)
@@ -186,18 +161,9 @@ module _ (N : ℕ) (T : List ℕ) (P : OtherwiseProper N T) (r : Reading) (R : I
 
     -- so the coarse mesh is matched onto the rows
     rows-matched : Matched Same newVertex newTriangle (r .vertices) (r .mesh) (vertexRank r N) C′
-    rows-matched = record {
-      vertices = keptMatch .match;
-      faces = subst (Match newTriangle (triangles (r .mesh))) (sym rows-triangles) (centreMatch .match);
-      agreed = λ j l. of j (centre-numbers N T P r R .onto j l);
-    }
-      where
-        of : (j : ℕ) → (k : ℕ) × Centre r k × (at (r .triangleMap) k / 4 ≡ j)
-            → Same (renamed newVertex (r .mesh)) j C′ (at newTriangle j)
-        of j (k, q, e) =
-            subst₂ (λ i h. Same (renamed newVertex (r .mesh)) i C′ h) e
-            (sym (centreMatch .sends k q) ∙ ap (at newTriangle) e)
-            (record { there = λ v. agreed-there k v q; back = λ v. agreed-back k v q })
+    rows-matched = renumbers-matched (keptMatch .match) (centre-numbers N T P r R) centreMatch rows-triangles
+        (λ k q. opposite-same N T P r R newVertex C′ (vertexRank r) k (centreRank r k) q (keptMatch .sends)
+        (λ i w. row-there k i w q) (λ y. row-back k y q))
 
     -- which are proper with it
     rows-proper : Proper (vertexRank r N) C′
@@ -236,10 +202,10 @@ module _ (N : ℕ) (T : List ℕ) (P : OtherwiseProper N T) (r : Reading) (R : I
     centre-rank : (k : ℕ) → Centre r k → at (renewed .triangleMap) k ≡ 4 * centreRank r k
     centre-rank k q =
         composed-at (r .triangleMap) (carry .triangleMap) k (q .inside) ∙ ap (at (carry .triangleMap)) whole
-        ∙ carry .centre (at (r .triangleMap) k / 4) (centre-numbers N T P r R .below k q)
+        ∙ carry .centre (coarseOf r k) (centre-numbers N T P r R .below k q)
         ∙ ap (λ x. 4 * x) (centreMatch .sends k q)
       where
-        whole : at (r .triangleMap) k ≡ 4 * (at (r .triangleMap) k / 4)
+        whole : at (r .triangleMap) k ≡ 4 * (coarseOf r k)
         whole = omega arith
 
     -- ---- it keeps the same vertices and has the same centres
@@ -330,18 +296,18 @@ module _ (N : ℕ) (T : List ℕ) (P : OtherwiseProper N T) (r : Reading) (R : I
 
     -- a row for each centre
     renewed-rows : (k i : ℕ) → Centre renewed k → i < 3 → (w : ℕ) × Kept renewed w × Opposite T k i w
-        × (at C′ (3 * (at (renewed .triangleMap) k / 4) + i) ≡ at (renewed .vertexMap) w)
+        × (at C′ (3 * (coarseOf renewed k) + i) ≡ at (renewed .vertexMap) w)
     renewed-rows k i q b = entry (W .row k i q′ b)
       where
         q′ : Centre r k
         q′ = centre-back k q
 
-        place : at (renewed .triangleMap) k / 4 ≡ centreRank r k
+        place : coarseOf renewed k ≡ centreRank r k
         place = omega (arith, centre-rank k q′)
 
         entry : RowEntry T r k i (at C′ (3 * centreRank r k + i))
             → (w : ℕ) × Kept renewed w × Opposite T k i w
-            × (at C′ (3 * (at (renewed .triangleMap) k / 4) + i) ≡ at (renewed .vertexMap) w)
+            × (at C′ (3 * (coarseOf renewed k) + i) ≡ at (renewed .vertexMap) w)
         entry (w, p, o, e) =
             (w, kept-there w p, o, ap (λ j. at C′ (3 * j + i)) place ∙ e ∙ sym (kept-rank w p))
 

@@ -2,19 +2,23 @@
 -- go where they went, vertices between to vertices between, and the four of a triangle to the four of its match, the
 -- centre to the centre. The way is over the corners: a match of meshes matches their corners, and a half-edge goes
 -- with the corner that it misses. And a match carries properness along.
-use Prim.Native.Nat.{ℕ, zero, suc, _+_, _*_, _/_, _%_, _-_, _≤_, _<_}
+use Prim.Native.Nat.{ℕ, suc, _+_, _*_, _/_, _%_, _-_, _≤_, _<_}
 use mathlib.Core.Path.{_≡_, refl, sym, ap, _∙_}
 use mathlib.Core.Logic.{_≢_, _⊎_, inl, inr}
-use mathlib.Core.List.{List, [], _∷_}
+use mathlib.Core.List.{List}
 use native.Mathlib.Decide.{ℕ-discrete, decLt}
 use native.Mathlib.Omega.{arith}
-use lib.ListN.{length, length-map}
-use Rattle.theory.specs.Mesh.{at, triangles, On, HasEdge, Same, Share, Reach, here, step}
-use Rattle.theory.specs.Mesh.{OtherwiseProper, Proper}
+use lib.ListN.{length}
+use Rattle.theory.specs.Mesh.{at, triangles, On, HasEdge, Same, Reach, here, step, OtherwiseProper, Proper}
 use Rattle.theory.specs.Splitting.{next, edges, edgeNo, split}
 use Rattle.theory.specs.Reading.{Match, renamed, Matched}
-use Rattle.theory.proofs.Finite.{tabulate, tabulate-at, injective-onto, match-tabulate}
-use Rattle.theory.proofs.Splitting.{SameEdge, sameEdge-ends, ends-sameEdge, ends-sameEdge-crossed}
+use Rattle.theory.proofs.Numbering.{OneToOne, Chosen, choose}
+use Rattle.theory.proofs.Corners.{corner-unique, triangle-inside, corners-onto, before, next-triangle}
+use Rattle.theory.proofs.Corners.{before-triangle, next-place, next-before, before-next, Ends, next-ends}
+use Rattle.theory.proofs.Mesh.{on-corner, reach-trans, reach-sym, on-triangle, on-vertex}
+use Rattle.theory.proofs.Renaming.{on-renamed, renamed-on, on-match, match-on, match-on-only}
+use Rattle.theory.proofs.Splitting.{SameEdge, Joins, along, against, ends-joins, joins-swap, joins-sameEdge}
+use Rattle.theory.proofs.Splitting.{sameEdge-joins, joins-ends}
 use Rattle.theory.proofs.Splitting.{edgeNo-same, edgeNo-injective, edgeNo-above, edgeNo-below, edgeNo-hit}
 use Rattle.theory.proofs.Splitting.{split-length, split-triangles, OnSplit, edge, coarse, on-split, split-on}
 use Rattle.theory.proofs.Heart.{split-below, split-different}
@@ -28,71 +32,6 @@ pub record Carries (f g : List ℕ) (M : ℕ) (C : List ℕ) (M′ : ℕ) (C′ 
   pub between : (v : ℕ) → M ≤ v → v < M + edges C → M′ ≤ at vertexMap v
   pub four : (t : ℕ) → t < 4 * triangles C → at triangleMap t / 4 ≡ at g (t / 4)
   pub centre : (j : ℕ) → j < triangles C → at triangleMap (4 * j) ≡ 4 * at g j
-
--- ---- the three corners of a triangle
-
--- The corner before corner c in its triangle: the one that half-edge c misses.
-abbrev before : ℕ → ℕ
-before c = 3 * (c / 3) + (c + 2) % 3
-
--- the next corner and the one before are in the same triangle
-next-triangle : (c : ℕ) → next c / 3 ≡ c / 3
-next-triangle c = omega arith
-
-before-triangle : (c : ℕ) → before c / 3 ≡ c / 3
-before-triangle c = omega arith
-
--- they undo each other, and the next but one is the one before
-next-before : (c : ℕ) → next (before c) ≡ c
-next-before c = omega arith
-
-before-next : (c : ℕ) → before (next c) ≡ c
-before-next c = omega arith
-
-next-next : (c : ℕ) → next (next c) ≡ before c
-next-next c = omega arith
-
-next-place : (c : ℕ) → next c % 3 ≡ suc (c % 3) % 3
-next-place c = omega arith
-
--- a corner is known by its triangle and its place there
-corner-unique : (c d : ℕ) → c / 3 ≡ d / 3 → c % 3 ≡ d % 3 → c ≡ d
-corner-unique c d p q = omega arith
-
--- the corners of a triangle are inside the list if one is
-corner-inside : (n c d : ℕ) → n ≡ 3 * (n / 3) → d < n → c / 3 ≡ d / 3 → c < n
-corner-inside n c d w l e = omega arith
-
--- another corner of the triangle is the next one or the one before
-next-or-before : (x z : ℕ) → x / 3 ≡ z / 3 → x ≢ z → (x ≡ next z) ⊎ (x ≡ before z)
-next-or-before x z e n = elim (ℕ-discrete x (next z)) [ yes p ↦ inl p | no p ↦ inr (omega arith) ]
-
--- half-edge h runs between the corners x and y, one way round or the other
-data Ends (h x y : ℕ) : Type 0 where
-  forth : h ≡ x → next h ≡ y → Ends h x y
-  back : h ≡ y → next h ≡ x → Ends h x y
-
--- half-edge `next z` runs between the other two corners of the triangle
-next-ends : (x y z : ℕ) → x / 3 ≡ z / 3 → y / 3 ≡ z / 3 → x ≢ y → x ≢ z → y ≢ z → Ends (next z) x y
-next-ends x y z p q x≢y x≢z y≢z = go (next-or-before x z p x≢z) (next-or-before y z q y≢z)
-  where
-    go : (x ≡ next z) ⊎ (x ≡ before z) → (y ≡ next z) ⊎ (y ≡ before z) → Ends (next z) x y
-    go (inl a) (inl b) = absurd (x≢y (a ∙ sym b))
-    go (inl a) (inr b) = forth (sym a) (next-next z ∙ sym b)
-    go (inr a) (inl b) = back (sym b) (next-next z ∙ sym a)
-    go (inr a) (inr b) = absurd (x≢y (a ∙ sym b))
-
--- a one-to-one map of 0, 1, 2 to the corners of a triangle is onto
-corners-onto : (κ : ℕ → ℕ) (l : ℕ) → ((i : ℕ) → i < 3 → κ i / 3 ≡ l) → ((i j : ℕ) → i < 3 → j < 3 → κ i ≡ κ j → i ≡ j)
-    → (y : ℕ) → y / 3 ≡ l → (i : ℕ) × (i < 3) × (κ i ≡ y)
-corners-onto κ l lands apart y e =
-    go (injective-onto (λ i. κ i % 3) 3 (λ i b. omega arith) places (y % 3) (omega arith))
-  where
-    places : (i j : ℕ) → i < 3 → j < 3 → κ i % 3 ≡ κ j % 3 → i ≡ j
-    places i j a b p = apart i j a b (omega (arith, lands i a, lands j b))
-
-    go : (i : ℕ) × (i < 3) × (κ i % 3 ≡ y % 3) → (i : ℕ) × (i < 3) × (κ i ≡ y)
-    go (i, b, p) = (i, b, omega (arith, lands i b))
 
 -- ---- the four triangles that a triangle becomes
 
@@ -126,7 +65,7 @@ cornerTriangle-place c t e = omega arith
 
 -- the triangle at corner c lacks the edge of half-edge `next c`
 cornerTriangle-lacks : (c t : ℕ) → t ≡ cornerTriangle c → t % 4 % 3 ≡ next c % 3
-cornerTriangle-lacks c t e = rw (next-place c, cornerTriangle-place c t e) refl
+cornerTriangle-lacks c t e = rw (next-place c, cornerTriangle-place c t e) (ap (λ i. i % 3) (omega arith))
 
 -- a half-edge that it lacks misses c
 lacked-misses : (h c t : ℕ) → t ≡ cornerTriangle c → h / 3 ≡ c / 3 → h % 3 ≡ t % 4 % 3 → before h ≡ c
@@ -138,102 +77,6 @@ lacked-misses h c t p e m = ap before (corner-unique h (next c) (e ∙ sym (next
 -- a half-edge that misses c is lacked
 misses-lacked : (h c t : ℕ) → t ≡ cornerTriangle c → before h ≡ c → h % 3 ≡ t % 4 % 3
 misses-lacked h c t p e = ap (λ i. i % 3) (sym (next-before h) ∙ ap next e) ∙ sym (cornerTriangle-lacks c t p)
-
--- ---- relations that are one to one
-
--- R sends the numbers below m one to one onto the numbers below n
-pub record OneToOne (R : ℕ → ℕ → Type 0) (m n : ℕ) : Type 0 where
-  pub total : (i : ℕ) → i < m → (y : ℕ) × (y < n) × R i y
-  pub one : (i x y : ℕ) → R i x → R i y → x ≡ y
-  pub apart : (i j y : ℕ) → i < m → j < m → R i y → R j y → i ≡ j
-  pub onto : (y : ℕ) → y < n → (i : ℕ) × (i < m) × R i y
-
--- a match that keeps to R
-pub record Chosen (R : ℕ → ℕ → Type 0) (m n : ℕ) : Type 0 where
-  pub list : List ℕ
-  pub match : Match list m n
-  pub related : (i : ℕ) → i < m → R i (at list i)
-
-module _ (R : ℕ → ℕ → Type 0) (m n : ℕ) (O : OneToOne R m n) where
-  -- what R sends i to, if i is below m
-  sent : (i : ℕ) → Dec (i < m) → ℕ
-  sent i (yes l) = O .total i l .0
-  sent i (no _) = 0
-
-  -- what i is sent to is related to it
-  sent-related : (i : ℕ) → i < m → (d : Dec (i < m)) → (sent i d < n) × R i (sent i d)
-  unfolding sent
-  sent-related i l (yes k) = (O .total i k .1, O .total i k .2)
-  sent-related i l (no k) = absurd (k l)
-
-  -- a relation that is one to one holds a match
-  pub choose : Chosen R m n
-  choose = record {
-    list = tabulate image m;
-    match = match-tabulate image m n (λ i l. related i l .0) apart (λ y l. hit y (O .onto y l));
-    related = λ i l. rw (tabulate-at image m i l) (related i l .1);
-  }
-    where
-      image : ℕ → ℕ
-      image i = sent i (decLt i m)
-
-      related : (i : ℕ) → i < m → (image i < n) × R i (image i)
-      related i l = sent-related i l (decLt i m)
-
-      apart : (i j : ℕ) → i < m → j < m → image i ≡ image j → i ≡ j
-      apart i j a b e = O .apart i j (image j) a b (rw e at (related i a .1)) (related j b .1)
-
-      hit : (y : ℕ) → (i : ℕ) × (i < m) × R i y → (i : ℕ) × (i < m) × (image i ≡ y)
-      hit y (i, b, r) = (i, b, O .one i (image i) y (related i b .1) r)
-
--- ---- the vertices of a triangle
-
--- a corner inside the list is a vertex of its triangle
-on-corner : (T : List ℕ) (c : ℕ) → c < length T → On T (c / 3) (at T c)
-on-corner T c l = record { corner = c; inside = l; triangle = refl; holds = refl }
-
--- a triangle with a vertex is one of the list
-on-triangle : {T : List ℕ} {k v : ℕ} → length T ≡ 3 * triangles T → On T k v → k < triangles T
-on-triangle w o = omega arith
-
--- a vertex of a triangle is one of the mesh
-on-below : {N : ℕ} {T : List ℕ} {k v : ℕ} → ((c : ℕ) → c < length T → at T c < N) → On T k v → v < N
-on-below below o = rw (← o .holds) (below (o .corner) (o .inside))
-
--- ---- renamed lists
-
--- a renamed list has one entry for each, its match
-renamed-length : (f T : List ℕ) → length (renamed f T) ≡ length T
-unfolding renamed
-renamed-length f T = length-map T (at f)
-
-renamed-at : (f T : List ℕ) (c : ℕ) → c < length T → at (renamed f T) c ≡ at f (at T c)
-unfolding renamed
-renamed-at f [] c l = absurd (omega arith)
-renamed-at f (x ∷ xs) zero l = refl
-renamed-at f (x ∷ xs) (suc c) l = renamed-at f xs c (omega arith)
-
--- the vertices of a triangle, renamed, are on the renamed triangle
-renamed-on : (f : List ℕ) {T : List ℕ} {k v : ℕ} → On T k v → On (renamed f T) k (at f v)
-renamed-on f {T} o = record {
-  corner = o .corner;
-  inside = rw renamed-length (o .inside);
-  triangle = o .triangle;
-  holds = renamed-at f T (o .corner) (o .inside) ∙ ap (at f) (o .holds);
-}
-
--- and no others are
-on-renamed : (f T : List ℕ) (k w : ℕ) → On (renamed f T) k w → (v : ℕ) × On T k v × (at f v ≡ w)
-on-renamed f T k w o = (at T c, record { corner = c; inside = inside; triangle = o .triangle; holds = refl }, holds)
-  where
-    c : ℕ
-    c = o .corner
-
-    inside : c < length T
-    inside = rw renamed-length at (o .inside)
-
-    holds : at f (at T c) ≡ w
-    holds = sym (renamed-at f T c inside) ∙ o .holds
 
 -- ---- triangles with three different corners
 
@@ -272,7 +115,7 @@ module _ (f T S : List ℕ) (N n k l : ℕ) (F : Match f N n) (below : (c : ℕ)
   -- so the two triangles are the same under the renaming
   three-same : Same (renamed f T) k S l
   three-same = record {
-    there = λ w o. to w (on-renamed f T k w o);
+    there = λ w o. to w (renamed-on f o);
     back = λ w o. from w o (found-onto (o .corner) (o .triangle));
   }
     where
@@ -280,7 +123,7 @@ module _ (f T S : List ℕ) (N n k l : ℕ) (F : Match f N n) (below : (c : ℕ)
       to w (v, o, e) = rw (← e) (there v o)
 
       from : (w : ℕ) (o : On S l w) → (i : ℕ) × (i < 3) × (found i ≡ o .corner) → On (renamed f T) k w
-      from w o (i, b, e) = rw (← o .holds, ← e, found-holds i) (renamed-on f (corner-on i))
+      from w o (i, b, e) = rw (← o .holds, ← e, found-holds i) (on-renamed f (corner-on i))
 
   -- and triangle l has three different corners too
   three-different : (c d : ℕ) → c / 3 ≡ l → d / 3 ≡ l → at S c ≡ at S d → c ≡ d
@@ -288,63 +131,6 @@ module _ (f T S : List ℕ) (N n k l : ℕ) (F : Match f N n) (below : (c : ℕ)
     where
       go : (i : ℕ) × (i < 3) × (found i ≡ c) → (j : ℕ) × (j < 3) × (found j ≡ d) → c ≡ d
       go (i, a, s) (j, b, t) = sym s ∙ ap found (found-apart i j a b (cc)) ∙ t
-
--- ---- steps over shared edges
-
--- sharing an edge, and being reached, goes both ways
-share-sym : {T : List ℕ} {k l : ℕ} → Share T k l → Share T l k
-share-sym s = record { u = s .u; v = s .v; one = s .other; other = s .one }
-
--- steps after steps
-reach-trans : {T : List ℕ} {j k l : ℕ} → Reach T j k → Reach T k l → Reach T j l
-reach-trans q here = q
-reach-trans q (step r s) = step (reach-trans q r) s
-
-reach-sym : {T : List ℕ} {k l : ℕ} → Reach T k l → Reach T l k
-reach-sym here = here
-reach-sym (step r s) = reach-trans (step here (share-sym s)) (reach-sym r)
-
--- ---- the ends of a half-edge
-
--- half-edge h joins the vertices a and b, one way round or the other
-data Joins (T : List ℕ) (h a b : ℕ) : Type 0 where
-  along : at T h ≡ a → at T (next h) ≡ b → Joins T h a b
-  against : at T h ≡ b → at T (next h) ≡ a → Joins T h a b
-
--- it joins the vertices at the corners that it runs between
-ends-joins : {T : List ℕ} {h x y a b : ℕ} → Ends h x y → at T x ≡ a → at T y ≡ b → Joins T h a b
-ends-joins {T} (forth p q) d e = along (ap (at T) p ∙ d) (ap (at T) q ∙ e)
-ends-joins {T} (back p q) d e = against (ap (at T) p ∙ e) (ap (at T) q ∙ d)
-
--- the two ends may be named in either order
-joins-swap : {T : List ℕ} {h a b : ℕ} → Joins T h a b → Joins T h b a
-joins-swap (along p q) = against p q
-joins-swap (against p q) = along p q
-
--- half-edges that join the same vertices are on the same edge
-joins-sameEdge : {T : List ℕ} {h k a b : ℕ} → Joins T h a b → Joins T k a b → SameEdge T h k
-joins-sameEdge {T} {h} {k} (along p q) (along r s) = ends-sameEdge T h k (p ∙ sym r) (q ∙ sym s)
-joins-sameEdge {T} {h} {k} (along p q) (against r s) = ends-sameEdge-crossed T h k (p ∙ sym s) (q ∙ sym r)
-joins-sameEdge {T} {h} {k} (against p q) (along r s) = ends-sameEdge-crossed T h k (p ∙ sym s) (q ∙ sym r)
-joins-sameEdge {T} {h} {k} (against p q) (against r s) = ends-sameEdge T h k (p ∙ sym r) (q ∙ sym s)
-
--- half-edges on the same edge join the same vertices
-sameEdge-joins : {T : List ℕ} {h k a b : ℕ} → SameEdge T h k → Joins T k a b → Joins T h a b
-sameEdge-joins {T} {h} {k} {a} {b} e j = go (sameEdge-ends e) j
-  where
-    go : ((at T h ≡ at T k) × (at T (next h) ≡ at T (next k))) ⊎ ((at T h ≡ at T (next k)) × (at T (next h) ≡ at T k))
-        → Joins T k a b → Joins T h a b
-    go (inl (p, q)) (along r s) = along (p ∙ r) (q ∙ s)
-    go (inl (p, q)) (against r s) = against (p ∙ r) (q ∙ s)
-    go (inr (p, q)) (along r s) = against (p ∙ s) (q ∙ r)
-    go (inr (p, q)) (against r s) = along (p ∙ s) (q ∙ r)
-
--- a half-edge joins only its two ends
-joins-ends : {T : List ℕ} {h a b c d : ℕ} → Joins T h a b → Joins T h c d → ((a ≡ c) × (b ≡ d)) ⊎ ((a ≡ d) × (b ≡ c))
-joins-ends (along p q) (along r s) = inl (sym p ∙ r, sym q ∙ s)
-joins-ends (along p q) (against r s) = inr (sym p ∙ r, sym q ∙ s)
-joins-ends (against p q) (along r s) = inr (sym q ∙ s, sym p ∙ r)
-joins-ends (against p q) (against r s) = inl (sym q ∙ s, sym p ∙ r)
 
 -- ---- what a match of meshes does to triangles and their vertices
 
@@ -358,36 +144,21 @@ module _ (f g : List ℕ) (M : ℕ) (C : List ℕ) (M′ : ℕ) (C′ : List ℕ
     (P : OtherwiseProper M C) (G : Matched Same f g M C M′ C′) where
   -- vertices with the same match are the same
   on-apart : {j k u v : ℕ} → On C j u → On C k v → at f u ≡ at f v → u ≡ v
-  on-apart {j} {k} {u} {v} o p e = G .vertices .apart u v (on-below (P .below) o) (on-below (P .below) p) e
-
-  -- a vertex of triangle k goes to a vertex of its match
-  pub on-match : (k v : ℕ) → On C k v → On C′ (at g k) (at f v)
-  on-match k v o = G .agreed k (on-triangle (P .whole) o) .there (at f v) (renamed-on f o)
-
-  -- and every vertex of the match comes from one
-  pub match-on : (k w : ℕ) → k < triangles C → On C′ (at g k) w → (v : ℕ) × On C k v × (at f v ≡ w)
-  match-on k w l o = on-renamed f C k w (G .agreed k l .back w o)
-
-  -- only the vertices of triangle k go to vertices of its match
-  pub match-on-only : (k v : ℕ) → k < triangles C → v < M → On C′ (at g k) (at f v) → On C k v
-  match-on-only k v l b o = go (match-on k (at f v) l o)
-    where
-      go : (u : ℕ) × On C k u × (at f u ≡ at f v) → On C k v
-      go (u, p, e) = rw (← G .vertices .apart u v (on-below (P .below) p) b e) p
+  on-apart {j} {k} {u} {v} o p e = G .vertices .apart u v (on-vertex P o) (on-vertex P p) e
 
   -- an edge of triangle k goes to an edge of its match
   pub hasEdge-match : {k u v : ℕ} → HasEdge C k u v → HasEdge C′ (at g k) (at f u) (at f v)
   hasEdge-match {k} {u} {v} h = record {
     differ = λ e. h .differ (on-apart (h .oneEnd) (h .otherEnd) e);
-    oneEnd = on-match k u (h .oneEnd);
-    otherEnd = on-match k v (h .otherEnd);
+    oneEnd = on-match G (on-triangle P (h .oneEnd)) (h .oneEnd);
+    otherEnd = on-match G (on-triangle P (h .otherEnd)) (h .otherEnd);
   }
 
   -- triangles whose matches are the same are the same
   same-match : (j k : ℕ) → j < triangles C → k < triangles C → Same C′ (at g j) C′ (at g k) → Same C j C k
   same-match j k l m s = record {
-    there = λ v o. match-on-only k v m (on-below (P .below) o) (s .there (at f v) (on-match j v o));
-    back = λ v o. match-on-only j v l (on-below (P .below) o) (s .back (at f v) (on-match k v o));
+    there = λ v o. match-on-only G P m (on-vertex P o) (s .there (at f v) (on-match G l o));
+    back = λ v o. match-on-only G P l (on-vertex P o) (s .back (at f v) (on-match G m o));
   }
 
   -- steps over shared edges go to steps over shared edges
@@ -407,7 +178,7 @@ module _ (f g : List ℕ) (M : ℕ) (C : List ℕ) (M′ : ℕ) (C′ : List ℕ
   module _ (whole : length C′ ≡ 3 * triangles C′) where
     -- the triangle in whose match a corner of C′ is
     corner-match : (c : ℕ) → c < length C′ → (k : ℕ) × (k < triangles C) × (at g k ≡ c / 3)
-    corner-match c l = G .faces .onto (c / 3) (on-triangle whole (on-corner C′ c l))
+    corner-match c l = G .faces .onto (c / 3) (omega arith)
 
     -- every corner of C′ is come to from a corner
     cornerTo-onto : (y : ℕ) → y < length C′ → (c : ℕ) × (c < length C) × CornerTo f g C C′ c y
@@ -426,7 +197,7 @@ module _ (f g : List ℕ) (M : ℕ) (C : List ℕ) (M′ : ℕ) (C′ : List ℕ
         )
 
         go : (k : ℕ) × (k < triangles C) × (at g k ≡ y / 3) → (c : ℕ) × (c < length C) × CornerTo f g C C′ c y
-        go (k, b, e) = corner k e (match-on k (at C′ y) b (rw e (on-corner C′ y l)))
+        go (k, b, e) = corner k e (match-on G b (rw e (on-corner C′ y l)))
 
     -- ---- a match carries properness along
 
@@ -443,7 +214,7 @@ module _ (f g : List ℕ) (M : ℕ) (C : List ℕ) (M′ : ℕ) (C′ : List ℕ
       where
         go : (k : ℕ) × (k < triangles C) × (at g k ≡ c / 3) → at C′ c ≡ at C′ d → c ≡ d
         go (k, b, q) = three-different f C C′ M M′ k (at g k) (G .vertices) (P .below) (P .different)
-            (omega (arith, P .whole)) (on-match k) c d (sym q) (sym e ∙ sym q)
+            (omega (arith, P .whole)) (λ v. on-match G b) c d (sym q) (sym e ∙ sym q)
 
     -- two triangles of C′ that are the same come from the same one
     matched-unlike : (j k : ℕ) → j < triangles C′ → k < triangles C′ → Same C′ j C′ k → j ≡ k
@@ -457,7 +228,7 @@ module _ (f g : List ℕ) (M : ℕ) (C : List ℕ) (M′ : ℕ) (C′ : List ℕ
     matched-used v l = go (G .vertices .onto v l)
       where
         go : (u : ℕ) × (u < M) × (at f u ≡ v) → (k : ℕ) × On C′ k v
-        go (u, b, e) = (at g (P .used u b .0), rw (← e) (on-match (P .used u b .0) u (P .used u b .1)))
+        go (u, b, e) = (at g (P .used u b .0), rw (← e) (on-match G (on-triangle P (P .used u b .1)) (P .used u b .1)))
 
     -- all but connectedness
     matched-otherwise : OtherwiseProper M′ C′
@@ -474,7 +245,7 @@ module _ (f g : List ℕ) (M : ℕ) (C : List ℕ) (M′ : ℕ) (C′ : List ℕ
   module _ (P′ : OtherwiseProper M′ C′) where
     -- every corner goes somewhere
     cornerTo-total : (c : ℕ) → c < length C → (c′ : ℕ) × (c′ < length C′) × CornerTo f g C C′ c c′
-    cornerTo-total c l = go (on-match (c / 3) (at C c) (on-corner C c l))
+    cornerTo-total c l = go (on-match G (omega (arith, P .whole)) (on-corner C c l))
       where
         go : On C′ (at g (c / 3)) (at f (at C c)) → (c′ : ℕ) × (c′ < length C′) × CornerTo f g C C′ c c′
         go o = (o .corner, o .inside, record { inside = o .inside; triangle = o .triangle; holds = o .holds })
@@ -536,13 +307,13 @@ module _ (f g κ : List ℕ) (M : ℕ) (C : List ℕ) (M′ : ℕ) (C′ : List 
 
   -- with a half-edge h its whole triangle is inside, and so is where it goes
   before-inside : (h : ℕ) → h < length C → before h < length C
-  before-inside h l = corner-inside (length C) (before h) h (K .source .whole) l (before-triangle h)
+  before-inside h l = triangle-inside (length C) (before h) h (K .source .whole) l (before-triangle h)
 
   next-inside : (h : ℕ) → h < length C → next h < length C
-  next-inside h l = corner-inside (length C) (next h) h (K .source .whole) l (next-triangle h)
+  next-inside h l = triangle-inside (length C) (next h) h (K .source .whole) l (next-triangle h)
 
   half-inside : (h : ℕ) → h < length C → half κ h < length C′
-  half-inside h l = corner-inside (length C′) (half κ h) (at κ (before h)) (K .target .whole)
+  half-inside h l = triangle-inside (length C′) (half κ h) (at κ (before h)) (K .target .whole)
       (K .corners .below (before h) (before-inside h l)) (next-triangle (at κ (before h)))
 
   -- the corners of the triangle of h go to corners of its match
@@ -559,7 +330,7 @@ module _ (f g κ : List ℕ) (M : ℕ) (C : List ℕ) (M′ : ℕ) (C′ : List 
   half-onto y l = go (K .corners .onto (before y) inside)
     where
       inside : before y < length C′
-      inside = corner-inside (length C′) (before y) y (K .target .whole) l (before-triangle y)
+      inside = triangle-inside (length C′) (before y) y (K .target .whole) l (before-triangle y)
 
       go : (c : ℕ) × (c < length C) × (at κ c ≡ before y) → (h : ℕ) × (h < length C) × (half κ h ≡ y)
       go (c, b, e) = (next c, next-inside c b, rw (before-next c, e) (next-before y))
@@ -786,8 +557,11 @@ module _ (f g κ : List ℕ) (M : ℕ) (C : List ℕ) (M′ : ℕ) (C′ : List 
   on-carried : (t v : ℕ) → t < 4 * triangles C → On (split M C) t v
       → On (split M′ C′) (at (faces .list) t) (at (vertices .list) v)
   on-carried t v l o = split-on M′ C′ (K .target .whole) _ _ (onSplit-carried t (at (faces .list) t) v
-      (at (vertices .list) v) (faces .related t l) (vertices .related v (on-below (split-below M C (K .source)) o))
+      (at (vertices .list) v) (faces .related t l) (vertices .related v below)
       (on-split M C (K .source .whole) t v o))
+    where
+      below : v < M + edges C
+      below = rw (← o .holds) (split-below M C (K .source) (o .corner) (o .inside))
 
   -- so matched triangles of the splittings are the same
   splits-agree : (t : ℕ) → t < 4 * triangles C

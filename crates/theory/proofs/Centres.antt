@@ -1,101 +1,54 @@
 -- What a reading makes of the input's vertices and triangles: a centre's edges are regular and the vertices across
--- them are kept; a triangle that is no centre has one kept vertex, and only vertices between across its edges.
-use Prim.Native.Nat.{ℕ, zero, suc, _*_, _/_, _%_, _<_}
+-- them are kept; a triangle that is no centre has one kept vertex, and only vertices between across its edges. A
+-- reading numbers the kept vertices and the centres.
+use Prim.Native.Nat.{ℕ, _+_, _*_, _/_, _%_, _<_}
 use native.Mathlib.Decide.{ℕ-discrete, decLt}
 use native.Mathlib.Omega.{arith}
-use mathlib.Core.Path.{_≡_, refl, sym, ap, _∙_}
+use mathlib.Core.Path.{_≡_, sym, ap, _∙_}
 use mathlib.Core.Logic.{_≢_, _⊎_, inl, inr}
-use mathlib.Core.List.{List, [], _∷_}
-use lib.ListN.{length, length-map}
+use mathlib.Core.List.{List}
+use lib.ListN.{length}
 use Rattle.theory.specs.Mesh.{at, triangles, On, HasEdge, Regular, Same, OtherwiseProper}
 use Rattle.theory.specs.Splitting.{split}
-use Rattle.theory.specs.Reading.{renamed, Reading, IsReading, Kept, Between, Centre, Across}
+use Rattle.theory.specs.Reading.{Reading, IsReading, Kept, Between, Centre, Across}
 use Rattle.theory.proofs.Numbering.{Numbers}
-use Rattle.theory.proofs.Splitting.{split-triangles}
+use Rattle.theory.proofs.Mesh.{three-on, across-edge, on-triangle, on-vertex, side}
+use Rattle.theory.proofs.Renaming.{on-match, match-on, match-on-only}
+use Rattle.theory.proofs.Splitting.{split-triangles, edge, split-on}
 use Rattle.theory.proofs.Heart
-use Rattle.theory.proofs.Heart.{two-between, corner-coarse, corner-coarse-only, coarse-once, centre-beside}
+use Rattle.theory.proofs.Heart.{EdgeOn, edge-on, two-between, corner-coarse, corner-coarse-only}
+use Rattle.theory.proofs.Heart.{coarse-once, centre-beside}
 
--- ---- renamed lists
+-- ---- readings
 
--- a renamed list is as long
-pub renamed-length : (f T : List ℕ) → length (renamed f T) ≡ length T
-unfolding renamed
-renamed-length f T = length-map T (at f)
+-- the splitting that the input is matched onto
+abbrev pub splitting : Reading → List ℕ
+splitting r = split (r .vertices) (r .mesh)
 
--- and its entries are the matches of the entries
-pub renamed-at : (f T : List ℕ) (c : ℕ) → c < length T → at (renamed f T) c ≡ at f (at T c)
-unfolding renamed
-renamed-at f [] c l = absurd (omega arith)
-renamed-at f (x ∷ T) zero l = refl
-renamed-at f (x ∷ T) (suc c) l = renamed-at f T c (omega arith)
+-- the coarse triangle whose four triangle k belongs to
+abbrev pub coarseOf : Reading → ℕ → ℕ
+coarseOf r k = at (r .triangleMap) k / 4
 
--- a vertex on a triangle is, renamed, on the triangle of the renamed list
-pub renamed-on : (f T : List ℕ) (k v : ℕ) → On T k v → On (renamed f T) k (at f v)
-renamed-on f T k v o = record {
-  corner = o .corner;
-  inside = omega (arith, renamed-length f T);
-  triangle = o .triangle;
-  holds = renamed-at f T (o .corner) (o .inside) ∙ ap (at f) (o .holds);
-}
-
--- and each vertex of the renamed list's triangle comes from one of the triangle
-pub on-renamed : (f T : List ℕ) (k y : ℕ) → On (renamed f T) k y → (v : ℕ) × On T k v × (at f v ≡ y)
-on-renamed f T k y o = (
-  at T (o .corner),
-  record { corner = o .corner; inside = inside; triangle = o .triangle; holds = refl },
-  sym (renamed-at f T (o .corner) inside) ∙ o .holds,
-)
-  where
-    inside : o .corner < length T
-    inside = omega (arith, renamed-length f T)
-
--- ---- the three vertices of a triangle
-
--- three different corners of a triangle are all
-three-corners : (a b c d : ℕ) → a / 3 ≡ d / 3 → b / 3 ≡ d / 3 → c / 3 ≡ d / 3
-    → a ≢ b → b ≢ c → c ≢ a → d ≢ a → d ≢ b → d ≡ c
-three-corners a b c d p q r ab bc ca da db = omega arith
-
--- three different vertices of a triangle are all
-pub three-on : (T : List ℕ) (k u v w x : ℕ) → On T k u → On T k v → On T k w → u ≢ v → v ≢ w → w ≢ u
-    → On T k x → x ≢ u → x ≢ v → x ≡ w
-three-on T k u v w x ou ov ow uv vw wu ox xu xv = sym (ox .holds) ∙ ap (at T) same ∙ ow .holds
-  where
-    apart : {a b : ℕ} (o : On T k a) (p : On T k b) → a ≢ b → o .corner ≢ p .corner
-    apart o p n e = n (sym (o .holds) ∙ ap (at T) e ∙ p .holds)
-
-    same : ox .corner ≡ ow .corner
-    same = three-corners (ou .corner) (ov .corner) (ow .corner) (ox .corner) (omega arith) (omega arith) (omega arith)
-        (apart ou ov uv) (apart ov ow vw) (apart ow ou wu) (apart ox ou xu) (apart ox ov xv)
-
--- the triangle across an edge has the edge
-pub across-edge : (T : List ℕ) (k u v w : ℕ) → u ≢ v → (a : Across T k u v w) → HasEdge T (a .other) u v
-across-edge T k u v w d a = record { differ = d; oneEnd = a .hasU; otherEnd = a .hasV }
-
--- ---- inside the mesh
-
-module _ (N : ℕ) (T : List ℕ) (P : OtherwiseProper N T) where
-  -- a triangle with a vertex on it is one of the list
-  pub on-triangle : (k v : ℕ) → On T k v → k < triangles T
-  on-triangle k v o = omega arith
-
-  -- and the vertex is one of the mesh
-  pub on-vertex : (k v : ℕ) → On T k v → v < N
-  on-vertex k v o = omega (arith, P .below (o .corner) (o .inside))
+-- the centre of the four of triangle l is another triangle, and has the edge v-w
+pub record CentreOver (T : List ℕ) (r : Reading) (l v w : ℕ) : Type 0 where
+  pub triangle : ℕ
+  pub is : Centre r triangle
+  pub other : triangle ≢ l
+  pub same : coarseOf r triangle ≡ coarseOf r l
+  pub has : HasEdge T triangle v w
 
 module _ (N : ℕ) (T : List ℕ) (P : OtherwiseProper N T) (r : Reading) (R : IsReading Same N T r) where
   -- ---- to the splitting and back
 
   -- a vertex on an input triangle is, under the maps, on the matched triangle of the splitting
   pub on-there : (k v : ℕ) → On T k v
-      → On (split (r .vertices) (r .mesh)) (at (r .triangleMap) k) (at (r .vertexMap) v)
-  on-there k v o =
-      R .matched .agreed k (on-triangle N T P k v o) .there (at (r .vertexMap) v) (renamed-on (r .vertexMap) T k v o)
+      → On (splitting r) (at (r .triangleMap) k) (at (r .vertexMap) v)
+  on-there k v o = on-match (R .matched) (on-triangle P o) o
 
   -- and each vertex of the matched triangle comes from one of the input triangle
-  pub on-back : (k y : ℕ) → k < triangles T → On (split (r .vertices) (r .mesh)) (at (r .triangleMap) k) y
+  pub on-back : (k y : ℕ) → k < triangles T → On (splitting r) (at (r .triangleMap) k) y
       → (v : ℕ) × On T k v × (at (r .vertexMap) v ≡ y)
-  on-back k y l o = on-renamed (r .vertexMap) T k y (R .matched .agreed k l .back y o)
+  on-back k y l o = match-on (R .matched) l o
 
   -- the vertex map is one to one
   pub vertex-apart : (u v : ℕ) → u < N → v < N → at (r .vertexMap) u ≡ at (r .vertexMap) v → u ≡ v
@@ -109,15 +62,12 @@ module _ (N : ℕ) (T : List ℕ) (P : OtherwiseProper N T) (r : Reading) (R : I
   -- so the ends of an edge have different matches
   ends-apart : (k u v : ℕ) → HasEdge T k u v → at (r .vertexMap) u ≢ at (r .vertexMap) v
   ends-apart k u v h e =
-      h .differ (vertex-apart u v (on-vertex N T P k u (h .oneEnd)) (on-vertex N T P k v (h .otherEnd)) e)
+      h .differ (vertex-apart u v (on-vertex P (h .oneEnd)) (on-vertex P (h .otherEnd)) e)
 
   -- and a vertex whose match is on the matched triangle is on the triangle
   pub on-from : (k v : ℕ) → k < triangles T → v < N
-      → On (split (r .vertices) (r .mesh)) (at (r .triangleMap) k) (at (r .vertexMap) v) → On T k v
-  on-from k v l b o = go (on-back k (at (r .vertexMap) v) l o)
-    where
-      go : (u : ℕ) × On T k u × (at (r .vertexMap) u ≡ at (r .vertexMap) v) → On T k v
-      go (u, p, e) = rw (vertex-apart u v (on-vertex N T P k u p) b e) at p
+      → On (splitting r) (at (r .triangleMap) k) (at (r .vertexMap) v) → On T k v
+  on-from k v l b o = match-on-only (R .matched) P l b o
 
   -- ---- kept or between, centre or not
 
@@ -137,7 +87,7 @@ module _ (N : ℕ) (T : List ℕ) (P : OtherwiseProper N T) (r : Reading) (R : I
   not-both v k b = omega arith
 
   -- a triangle matched to some 4j is a centre
-  fourth-centre : (k : ℕ) → k < triangles T → at (r .triangleMap) k % 4 ≡ 0 → Centre r k
+  pub fourth-centre : (k : ℕ) → k < triangles T → at (r .triangleMap) k % 4 ≡ 0 → Centre r k
   fourth-centre k l z = record { inside = omega arith; fourth = z }
 
   -- every triangle is a centre or is none
@@ -148,11 +98,54 @@ module _ (N : ℕ) (T : List ℕ) (P : OtherwiseProper N T) (r : Reading) (R : I
       go (yes z) = inl (fourth-centre k l z)
       go (no n) = inr (λ c. n (c .fourth))
 
+  -- a kept vertex is one of the vertices
+  pub kept-below : (v : ℕ) → Kept r v → v < N
+  kept-below v q = omega (arith, q .inside, R .matched .vertices .long)
+
+  -- and a centre is one of the triangles
+  pub centre-below : (k : ℕ) → Centre r k → k < triangles T
+  centre-below k c = omega (arith, c .inside, R .matched .faces .long)
+
+  -- ---- the numbers that a reading gives
+
+  -- a triangle belongs to the four of a coarse triangle
+  pub coarse-below : (k : ℕ) → k < triangles T → coarseOf r k < triangles (r .mesh)
+  coarse-below k l = omega (arith, R .matched .faces .below k l, split-triangles (r .vertices) (r .mesh))
+
+  -- every triangle of the splitting is matched
+  pub triangle-hit : (t : ℕ) → t < 4 * triangles (r .mesh)
+      → (k : ℕ) × (k < triangles T) × (at (r .triangleMap) k ≡ t)
+  triangle-hit t l = R .matched .faces .onto t (omega (arith, split-triangles (r .vertices) (r .mesh)))
+
+  -- the reading numbers the kept vertices
+  pub kept-numbers : Numbers (Kept r) (at (r .vertexMap)) (r .vertices)
+  kept-numbers = record {
+    below = λ v q. q .coarse;
+    apart = λ u v p q. vertex-apart u v (kept-below u p) (kept-below v q);
+    onto = λ y l. hit y l (R .matched .vertices .onto y (omega arith));
+  }
+    where
+      hit : (y : ℕ) → y < r .vertices → (v : ℕ) × (v < N) × (at (r .vertexMap) v ≡ y)
+          → (v : ℕ) × Kept r v × (at (r .vertexMap) v ≡ y)
+      hit y l (v, b, e) = (v, record { inside = omega (arith, R .matched .vertices .long); coarse = omega arith }, e)
+
+  -- and, by the coarse triangles, the centres
+  pub centre-numbers : Numbers (Centre r) (coarseOf r) (triangles (r .mesh))
+  centre-numbers = record {
+    below = λ k c. coarse-below k (centre-below k c);
+    apart = λ j k p q e. triangle-apart j k (centre-below j p) (centre-below k q) (omega arith);
+    onto = λ j l. hit j (triangle-hit (4 * j) (omega arith));
+  }
+    where
+      hit : (j : ℕ) → (k : ℕ) × (k < triangles T) × (at (r .triangleMap) k ≡ 4 * j)
+          → (k : ℕ) × Centre r k × (coarseOf r k ≡ j)
+      hit j (k, b, e) = (k, fourth-centre k b (omega arith), omega arith)
+
   -- ---- the vertices of a triangle
 
   -- a vertex on a triangle has a match
   vertex-inside : (k v : ℕ) → On T k v → v < length (r .vertexMap)
-  vertex-inside k v o = omega (arith, on-vertex N T P k v o)
+  vertex-inside k v o = omega (arith, on-vertex P o)
 
   -- a centre's vertices stand between
   pub centre-between : (k v : ℕ) → Centre r k → On T k v → Between r v
@@ -162,6 +155,10 @@ module _ (N : ℕ) (T : List ℕ) (P : OtherwiseProper N T) (r : Reading) (R : I
         (at (r .vertexMap) v) (c .fourth) (on-there k v o);
   }
 
+  -- so a triangle with a kept vertex is no centre
+  pub kept-no-centre : (k v : ℕ) → On T k v → Kept r v → Centre r k → ⊥
+  kept-no-centre k v o q c = not-both v q (centre-between k v c o)
+
   -- a triangle that is no centre has a kept vertex
   pub corner-kept : (k : ℕ) → k < triangles T → (Centre r k → ⊥) → (v : ℕ) × On T k v × Kept r v
   corner-kept k l c =
@@ -169,7 +166,7 @@ module _ (N : ℕ) (T : List ℕ) (P : OtherwiseProper N T) (r : Reading) (R : I
       (omega (arith, R .matched .faces .below k l, split-triangles (r .vertices) (r .mesh)))
       (λ z. c (fourth-centre k l z)))
     where
-      found : (y : ℕ) × (y < r .vertices) × On (split (r .vertices) (r .mesh)) (at (r .triangleMap) k) y
+      found : (y : ℕ) × (y < r .vertices) × On (splitting r) (at (r .triangleMap) k) y
           → (v : ℕ) × On T k v × Kept r v
       found (y, b, o) = from (on-back k y l o)
         where
@@ -179,15 +176,23 @@ module _ (N : ℕ) (T : List ℕ) (P : OtherwiseProper N T) (r : Reading) (R : I
   -- and only one
   pub one-kept : (k u v : ℕ) → On T k u → On T k v → Kept r u → Kept r v → u ≡ v
   one-kept k u v ou ov ku kv =
-      vertex-apart u v (on-vertex N T P k u ou) (on-vertex N T P k v ov)
+      vertex-apart u v (on-vertex P ou) (on-vertex P ov)
       (corner-coarse-only (r .vertices) (r .mesh) (R .proper .otherwise) (at (r .triangleMap) k) (at (r .vertexMap) u)
       (at (r .vertexMap) v) (ku .coarse) (kv .coarse) (on-there k u ou) (on-there k v ov))
+
+  -- beside it stand only vertices between
+  pub beside-kept : (k u v : ℕ) → On T k u → On T k v → u ≢ v → Kept r u → Between r v
+  beside-kept k u v ou ov d ku = go (kept-or-between v (on-vertex P ov))
+    where
+      go : Kept r v ⊎ Between r v → Between r v
+      go (inl kv) = absurd (d (one-kept k u v ou ov ku kv))
+      go (inr b) = b
 
   -- ---- over an edge
 
   -- two vertices between on two different triangles: these are a centre and a corner triangle of one four
   over-between : (k l u v : ℕ) → HasEdge T k u v → HasEdge T l u v → l ≢ k → Between r u → Between r v
-      → (at (r .triangleMap) l / 4 ≡ at (r .triangleMap) k / 4)
+      → (coarseOf r l ≡ coarseOf r k)
       × ((Centre r k × (Centre r l → ⊥)) ⊎ (Centre r l × (Centre r k → ⊥)))
   over-between k l u v hk hl n bu bv = go (two-between (r .vertices) (r .mesh) (R .proper .otherwise) gk gl
       (at (r .vertexMap) u) (at (r .vertexMap) v) (ends-apart k u v hk) (bu .new) (bv .new)
@@ -201,10 +206,10 @@ module _ (N : ℕ) (T : List ℕ) (P : OtherwiseProper N T) (r : Reading) (R : I
       gl = at (r .triangleMap) l
 
       lk : k < triangles T
-      lk = on-triangle N T P k u (hk .oneEnd)
+      lk = on-triangle P (hk .oneEnd)
 
       ll : l < triangles T
-      ll = on-triangle N T P l u (hl .oneEnd)
+      ll = on-triangle P (hl .oneEnd)
 
       go : (gk / 4 ≡ gl / 4) × (((gk % 4 ≡ 0) × (gl % 4 ≢ 0)) ⊎ ((gl % 4 ≡ 0) × (gk % 4 ≢ 0)))
           → (gl / 4 ≡ gk / 4) × ((Centre r k × (Centre r l → ⊥)) ⊎ (Centre r l × (Centre r k → ⊥)))
@@ -213,21 +218,21 @@ module _ (N : ℕ) (T : List ℕ) (P : OtherwiseProper N T) (r : Reading) (R : I
 
   -- a triangle that shares an edge with a centre is no centre, and belongs to the same four
   pub beside-centre : (k l u v : ℕ) → Centre r k → HasEdge T k u v → HasEdge T l u v → l ≢ k
-      → (Centre r l → ⊥) × (at (r .triangleMap) l / 4 ≡ at (r .triangleMap) k / 4)
+      → (Centre r l → ⊥) × (coarseOf r l ≡ coarseOf r k)
   beside-centre k l u v c hk hl n =
       go (over-between k l u v hk hl n (centre-between k u c (hk .oneEnd)) (centre-between k v c (hk .otherEnd)))
     where
-      go : (at (r .triangleMap) l / 4 ≡ at (r .triangleMap) k / 4)
+      go : (coarseOf r l ≡ coarseOf r k)
           × ((Centre r k × (Centre r l → ⊥)) ⊎ (Centre r l × (Centre r k → ⊥)))
-          → (Centre r l → ⊥) × (at (r .triangleMap) l / 4 ≡ at (r .triangleMap) k / 4)
+          → (Centre r l → ⊥) × (coarseOf r l ≡ coarseOf r k)
       go (q, inl (_, m)) = (m, q)
       go (q, inr (_, m)) = absurd (m c)
 
   -- so the vertex across an edge of a centre is kept
   pub across-centre : (k u v w : ℕ) → Centre r k → HasEdge T k u v → Across T k u v w → Kept r w
   across-centre k u v w c h a =
-      go (corner-kept (a .other) (on-triangle N T P (a .other) u (a .hasU))
-      (beside-centre k (a .other) u v c h (across-edge T k u v w (h .differ) a) (a .another) .0))
+      go (corner-kept (a .other) (on-triangle P (a .hasU))
+      (beside-centre k (a .other) u v c h (across-edge (h .differ) a) (a .another) .0))
     where
       go : (x : ℕ) × On T (a .other) x × Kept r x → Kept r w
       go (x, o, q) =
@@ -235,14 +240,6 @@ module _ (N : ℕ) (T : List ℕ) (P : OtherwiseProper N T) (r : Reading) (R : I
           o
           (λ e. not-both u (rw e at q) (centre-between k u c (h .oneEnd)))
           (λ e. not-both v (rw e at q) (centre-between k v c (h .otherEnd)))) at q
-
-  -- beside a kept vertex of a triangle stand only vertices between
-  beside-kept : (k u v : ℕ) → On T k u → On T k v → u ≢ v → Kept r u → Between r v
-  beside-kept k u v ou ov d ku = go (kept-or-between v (on-vertex N T P k v ov))
-    where
-      go : Kept r v ⊎ Between r v → Between r v
-      go (inl kv) = absurd (d (one-kept k u v ou ov ku kv))
-      go (inr b) = b
 
   -- triangles that are no centres and have two vertices between in common are one
   corners-same : (k l u v : ℕ) → (Centre r k → ⊥) → (Centre r l → ⊥) → HasEdge T k u v → HasEdge T l u v
@@ -261,13 +258,13 @@ module _ (N : ℕ) (T : List ℕ) (P : OtherwiseProper N T) (r : Reading) (R : I
   pub across-corner : (k u v w : ℕ) → k < triangles T → (Centre r k → ⊥) → HasEdge T k u v → Across T k u v w
       → Between r w
   across-corner k u v w l c h a =
-      go (centre-or-not (a .other) (on-triangle N T P (a .other) w (a .hasW)))
-      (kept-or-between w (on-vertex N T P (a .other) w (a .hasW)))
+      go (centre-or-not (a .other) (on-triangle P (a .hasW)))
+      (kept-or-between w (on-vertex P (a .hasW)))
     where
       go : Centre r (a .other) ⊎ (Centre r (a .other) → ⊥) → Kept r w ⊎ Between r w → Between r w
       go (inl d) _ = centre-between (a .other) w d (a .hasW)
       go (inr d) (inl q) =
-          absurd (a .another (corners-same k (a .other) u v c d h (across-edge T k u v w (h .differ) a)
+          absurd (a .another (corners-same k (a .other) u v c d h (across-edge (h .differ) a)
           (beside-kept (a .other) w u (a .hasW) (a .hasU) (a .notU) q)
           (beside-kept (a .other) w v (a .hasW) (a .hasV) (a .notV) q)))
       go (inr d) (inr b) = b
@@ -279,8 +276,8 @@ module _ (N : ℕ) (T : List ℕ) (P : OtherwiseProper N T) (r : Reading) (R : I
       (on-there k v (h .otherEnd)))
     where
       found : (t : ℕ) × (t < 4 * triangles (r .mesh)) × (t % 4 ≢ 0)
-          × On (split (r .vertices) (r .mesh)) t (at (r .vertexMap) u)
-          × On (split (r .vertices) (r .mesh)) t (at (r .vertexMap) v)
+          × On (splitting r) t (at (r .vertexMap) u)
+          × On (splitting r) t (at (r .vertexMap) v)
           → (l : ℕ) × HasEdge T l u v × (Centre r l → ⊥)
       found (t, b, n, ou, ov) =
           from (R .matched .faces .onto t (omega (arith, split-triangles (r .vertices) (r .mesh))))
@@ -291,8 +288,8 @@ module _ (N : ℕ) (T : List ℕ) (P : OtherwiseProper N T) (r : Reading) (R : I
             l,
             record {
               differ = h .differ;
-              oneEnd = on-from l u i (on-vertex N T P k u (h .oneEnd)) (rw e ou);
-              otherEnd = on-from l v i (on-vertex N T P k v (h .otherEnd)) (rw e ov);
+              oneEnd = on-from l u i (on-vertex P (h .oneEnd)) (rw e ou);
+              otherEnd = on-from l v i (on-vertex P (h .otherEnd)) (rw e ov);
             },
             λ d. n (ap (λ x. x % 4) (sym e) ∙ d .fourth),
           )
@@ -328,45 +325,71 @@ module _ (N : ℕ) (T : List ℕ) (P : OtherwiseProper N T) (r : Reading) (R : I
       hvw : HasEdge T k v w
       hvw = record { differ = vw; oneEnd = ov; otherEnd = ow }
 
-      one-four : at (r .triangleMap) (b .other) / 4 ≡ at (r .triangleMap) (a .other) / 4
-      one-four = beside-centre k (b .other) v w c hvw (across-edge T k v w x vw b) (b .another) .1
-          ∙ sym (beside-centre k (a .other) u v c huv (across-edge T k u v x uv a) (a .another) .1)
+      one-four : coarseOf r (b .other) ≡ coarseOf r (a .other)
+      one-four = beside-centre k (b .other) v w c hvw (across-edge vw b) (b .another) .1
+          ∙ sym (beside-centre k (a .other) u v c huv (across-edge uv a) (a .another) .1)
 
       one : b .other ≡ a .other
-      one = triangle-apart (b .other) (a .other) (on-triangle N T P (b .other) x (b .hasW))
-          (on-triangle N T P (a .other) x (a .hasW))
+      one = triangle-apart (b .other) (a .other) (on-triangle P (b .hasW))
+          (on-triangle P (a .hasW))
           (coarse-once (r .vertices) (r .mesh) (R .proper .otherwise) (at (r .triangleMap) (b .other))
           (at (r .triangleMap) (a .other)) (at (r .vertexMap) x) (across-centre k u v x c huv a .coarse) one-four
           (on-there (b .other) x (b .hasW)) (on-there (a .other) x (a .hasW)))
 
-  -- ---- the numbers that a reading gives
+  -- ---- the centre of a triangle's four
 
-  -- a reading numbers the kept vertices
-  pub kept-numbers : Numbers (Kept r) (at (r .vertexMap)) (r .vertices)
-  kept-numbers = record {
-    below = λ v q. q .coarse;
-    apart = λ u v p q. vertex-apart u v (omega arith) (omega arith);
-    onto = λ y l. hit y l (R .matched .vertices .onto y (omega arith));
-  }
+  -- every triangle belongs to the four of a centre
+  four-centre : (l : ℕ) → l < triangles T → (k : ℕ) × Centre r k × (coarseOf r k ≡ coarseOf r l)
+  four-centre l b = centre-numbers .onto (coarseOf r l) (coarse-below l b)
+
+  -- a vertex between on a triangle is also on the centre of its four
+  between-centre : (k l u : ℕ) → Centre r k → coarseOf r l ≡ coarseOf r k
+      → On T l u → Between r u → On T k u
+  between-centre k l u c e o b =
+      go (edge-on (r .vertices) (r .mesh) (R .proper .otherwise) (at (r .triangleMap) l) (at (r .vertexMap) u) (b .new)
+      (on-there l u o))
     where
-      hit : (y : ℕ) → y < r .vertices → (v : ℕ) × (v < N) × (at (r .vertexMap) v ≡ y)
-          → (v : ℕ) × Kept r v × (at (r .vertexMap) v ≡ y)
-      hit y l (v, b, e) = (v, record { inside = omega arith; coarse = omega arith }, e)
+      go : EdgeOn (r .vertices) (r .mesh) (at (r .triangleMap) l) (at (r .vertexMap) u) → On T k u
+      go h = on-from k u (centre-below k c) (on-vertex P o)
+          (split-on (r .vertices) (r .mesh) (R .proper .otherwise .whole) (at (r .triangleMap) k) (at (r .vertexMap) u)
+          (edge (h .half) (h .inside) (h .within ∙ e) (inl (c .fourth)) (h .number)))
 
-  -- and, by their coarse triangles, the centres
-  pub centre-numbers : Numbers (Centre r) (λ k. at (r .triangleMap) k / 4) (triangles (r .mesh))
-  centre-numbers = record {
-    below = λ k c. omega (arith, fours, R .matched .faces .below k (inside k c));
-    apart = λ j k c d e. triangle-apart j k (inside j c) (inside k d) (omega arith);
-    onto = λ j l. hit j (R .matched .faces .onto (4 * j) (omega (arith, fours)));
-  }
+  -- so every vertex between is on a centre
+  pub between-on : (v : ℕ) → Between r v → (k : ℕ) × Centre r k × On T k v
+  between-on v b = used (P .used v (omega (arith, b .inside, R .matched .vertices .long)))
     where
-      fours : triangles (split (r .vertices) (r .mesh)) ≡ 4 * triangles (r .mesh)
-      fours = split-triangles (r .vertices) (r .mesh)
+      found : (l : ℕ) → On T l v → (k : ℕ) × Centre r k × (coarseOf r k ≡ coarseOf r l)
+          → (k : ℕ) × Centre r k × On T k v
+      found l o (k, c, e) = (k, c, between-centre k l v c (sym e) o b)
 
-      inside : (k : ℕ) → Centre r k → k < triangles T
-      inside k c = omega arith
+      used : (l : ℕ) × On T l v → (k : ℕ) × Centre r k × On T k v
+      used (l, o) = found l o (four-centre l (on-triangle P o))
 
-      hit : (j : ℕ) → (k : ℕ) × (k < triangles T) × (at (r .triangleMap) k ≡ 4 * j)
-          → (k : ℕ) × Centre r k × (at (r .triangleMap) k / 4 ≡ j)
-      hit j (k, b, e) = (k, record { inside = omega arith; fourth = omega arith }, omega arith)
+  -- and over the side opposite a kept vertex is a centre: that of the triangle's four
+  centre-over : (l u v w : ℕ) → Kept r u → HasEdge T l u v → HasEdge T l u w → HasEdge T l v w
+      → CentreOver T r l v w
+  centre-over l u v w a d e f =
+      found (four-centre l (on-triangle P (f .oneEnd)))
+    where
+      found : (k : ℕ) × Centre r k × (coarseOf r k ≡ coarseOf r l) → CentreOver T r l v w
+      found (k, c, q) = record {
+        triangle = k;
+        is = c;
+        other = λ g. kept-no-centre l u (d .oneEnd) a (rw g at c);
+        same = q;
+        has = record {
+          differ = f .differ;
+          oneEnd =
+              between-centre k l v c (sym q) (f .oneEnd) (beside-kept l u v (d .oneEnd) (d .otherEnd) (d .differ) a);
+          otherEnd =
+              between-centre k l w c (sym q) (f .otherEnd) (beside-kept l u w (e .oneEnd) (e .otherEnd) (e .differ) a);
+        };
+      }
+
+  -- so the centre of its four is beside a triangle with a kept corner
+  pub corner-over : (l i : ℕ) → l < triangles T → i < 3 → Kept r (at T (3 * l + i))
+      → CentreOver T r l (at T (3 * l + (i + 1) % 3)) (at T (3 * l + (i + 2) % 3))
+  corner-over l i b a q = centre-over l (at T (3 * l + i)) (at T (3 * l + (i + 1) % 3)) (at T (3 * l + (i + 2) % 3)) q
+      (side P l i ((i + 1) % 3) b a (omega arith) (omega arith))
+      (side P l i ((i + 2) % 3) b a (omega arith) (omega arith))
+      (side P l ((i + 1) % 3) ((i + 2) % 3) b (omega arith) (omega arith) (omega arith))

@@ -1,65 +1,45 @@
 -- Complete: where a returned reading exists in a role, what is built from the start of that role is that reading, so
 -- that every test passes.
 use Prim.Native.Nat.{ℕ, suc, _+_, _*_, _/_, _%_, _≤_, _<_}
-use native.Mathlib.Decide.{ℕ-discrete}
 use native.Mathlib.Omega.{arith}
 use mathlib.Core.Path.{_≡_, sym, ap, _∙_, subst, subst₂}
 use mathlib.Core.Logic.{_≢_, _⊎_, inl, inr}
 use mathlib.Core.List.{List}
 use lib.ListN.{length}
 use lib.Seq.{ext-getD}
-use Rattle.theory.specs.Mesh.{at, triangles, On, HasEdge, Same, Share, Reach, Proper}
-use Rattle.theory.specs.Splitting.{edges, edgeNo, split}
-use Rattle.theory.specs.Reading.{Reading, Kept, Between, Centre, Returned}
+use Rattle.theory.specs.Mesh.{at, triangles, On, HasEdge, Same, Reach, Proper}
+use Rattle.theory.specs.Splitting.{edges, edgeNo}
+use Rattle.theory.specs.Reading.{Reading, Kept, Between, Centre, RoleOf, Returned}
 use Rattle.theory.proofs.Finite.{match-size}
-use Rattle.theory.proofs.Numbering.{Numbers, numbers-as, numbers-size, Upward, upward-apart, upward-agree}
-use Rattle.theory.proofs.Splitting.{edgeNo-hit, split-triangles, OnSplit, split-on}
-use Rattle.theory.proofs.Heart.{common-between}
-use Rattle.theory.proofs.Centres.{across-edge, on-triangle, on-there, on-from, kept-or-between, not-both}
-use Rattle.theory.proofs.Centres.{centre-or-not, centre-between, corner-kept, beside-centre}
-use Rattle.theory.proofs.Centres.{kept-numbers, centre-numbers}
-use Rattle.theory.proofs.Rows.{Opposite, centre-below, edge-at, opposite-exists, opposite-unique}
-use Rattle.theory.proofs.Unique.{coarseOf, StandsAt, kept-stands, corner-beside}
-use Rattle.theory.proofs.Tiles.{on-entry, Covering, IsTile, Start, InRow, row-opposite, centre-tile}
+use Rattle.theory.proofs.Numbering.{Numbers, numbers-of, numbers-size, Upward, upward-apart, upward-agree}
+use Rattle.theory.proofs.Mesh.{on-place, edge-side, across-edge, edge-across, on-triangle, side}
+use Rattle.theory.proofs.Heart.{CoarseOn, coarse-on, common-between}
+use Rattle.theory.proofs.Centres.{
+  splitting,
+  coarseOf,
+  CentreOver,
+  on-there,
+  kept-or-between,
+  not-both,
+  centre-below,
+  kept-numbers,
+  centre-numbers,
+  centre-between,
+  corner-kept,
+  beside-centre,
+  between-on,
+  corner-over,
+}
+use Rattle.theory.proofs.Rows.{Opposite, edge-at, opposite-exists, opposite-unique}
+use Rattle.theory.proofs.Unique.{role-exists}
+use Rattle.theory.proofs.Determined.{quarter}
+use Rattle.theory.proofs.Tiles.{Covering, IsTile, Start, InRow, row-opposite, centre-tile}
 use Rattle.theory.proofs.Tiles.{reached-centre, centre-reached, row-kept, kept-row, start-centre}
 use Rattle.theory.proofs.Built.{Ranked, Built, Found}
-
--- ---- the sides of a triangle
 
 -- triangle l has the side of triangle k that ends at its corner i
 abbrev Side : List ℕ → ℕ → ℕ → ℕ → Type 0
 Side T k i l = HasEdge T l (at T (3 * k + (i + 2) % 3)) (at T (3 * k + i))
-
--- of two corners of a triangle one comes right before the other
-corner-before : (a b : ℕ) → a < 3 → b < 3 → a ≢ b → (a ≡ (b + 2) % 3) ⊎ (b ≡ (a + 2) % 3)
-corner-before a b l m n = go (ℕ-discrete a ((b + 2) % 3))
-  where
-    go : Dec (a ≡ (b + 2) % 3) → (a ≡ (b + 2) % 3) ⊎ (b ≡ (a + 2) % 3)
-    go (yes e) = inl e
-    go (no d) = inr (omega arith)
-
--- so an edge that triangle l shares with triangle k is the side of k that ends at some corner
-share-side : {T : List ℕ} {k l : ℕ} → Share T k l → (i : ℕ) × (i < 3) × Side T k i l
-share-side {T} {k} {l} h =
-    go (corner-before (c .corner % 3) (d .corner % 3) (omega arith) (omega arith)
-    (λ e. h .one .differ (entry (d .corner % 3) c e ∙ on-entry d)))
-  where
-    c : On T k (h .u)
-    c = h .one .oneEnd
-
-    d : On T k (h .v)
-    d = h .one .otherEnd
-
-    back : HasEdge T l (h .v) (h .u)
-    back = record { differ = λ e. h .one .differ (sym e); oneEnd = h .other .otherEnd; otherEnd = h .other .oneEnd }
-
-    entry : {v : ℕ} (m : ℕ) (o : On T k v) → o .corner % 3 ≡ m → v ≡ at T (3 * k + m)
-    entry m o e = sym (on-entry o) ∙ ap (λ (i : ℕ). at T (3 * k + i)) e
-
-    go : (c .corner % 3 ≡ (d .corner % 3 + 2) % 3) ⊎ (d .corner % 3 ≡ (c .corner % 3 + 2) % 3)
-        → (i : ℕ) × (i < 3) × Side T k i l
-    go (inl e) = (d .corner % 3, omega arith, subst₂ (HasEdge T l) (entry _ c e) (sym (on-entry d)) (h .other))
-    go (inr e) = (c .corner % 3, omega arith, subst₂ (HasEdge T l) (entry _ d e) (sym (on-entry c)) back)
 
 -- ---- what a returned reading says of a centre and the triangles beside it
 
@@ -68,40 +48,28 @@ module _ (N : ℕ) (T : List ℕ) (P : Proper N T) (ρ : ℕ) (r : Reading) (R :
   beside-opposite : (k i l : ℕ) → Centre r k → i < 3 → l ≢ k → Side T k i l
       → (w : ℕ) × Kept r w × On T l w × Opposite T k i w
   beside-opposite k i l c b n h =
-      go (corner-kept N T (P .otherwise) r (R .is) l (on-triangle N T (P .otherwise) l _ (h .oneEnd))
-      (beside-centre N T (P .otherwise) r (R .is) k l _ _ c side h n .0))
+      go (corner-kept N T (P .otherwise) r (R .is) l (on-triangle (P .otherwise) (h .oneEnd))
+      (beside-centre N T (P .otherwise) r (R .is) k l _ _ c own h n .0))
     where
-      side : Side T k i k
-      side = edge-at N T (P .otherwise) r (R .is) k i c b
+      own : Side T k i k
+      own = edge-at N T (P .otherwise) r (R .is) k i c b
 
       apart : {v w : ℕ} → On T k v → Kept r w → w ≢ v
       apart {v} {w} o p e = not-both N T (P .otherwise) r (R .is) w p
           (subst (Between r) (sym e) (centre-between N T (P .otherwise) r (R .is) k v c o))
 
       go : (w : ℕ) × On T l w × Kept r w → (w : ℕ) × Kept r w × On T l w × Opposite T k i w
-      go (w, o, p) = (
-        w,
-        p,
-        o,
-        record {
-          other = l;
-          another = n;
-          hasU = h .oneEnd;
-          hasV = h .otherEnd;
-          hasW = o;
-          notU = apart (side .oneEnd) p;
-          notV = apart (side .otherEnd) p;
-        },
-      )
+      go (w, o, p) = (w, p, o, edge-across h n o (apart (own .oneEnd) p) (apart (own .otherEnd) p))
 
   -- where the kept vertex of a triangle of a four is the one at corner i of the coarse triangle, it stands at corner i
   stands-corner : (k i l w : ℕ) → coarseOf r l ≡ coarseOf r k → i < 3
-      → at (r .mesh) (3 * coarseOf r k + i) ≡ at (r .vertexMap) w → (d : ℕ) × StandsAt T r l w d
+      → at (r .mesh) (3 * coarseOf r k + i) ≡ at (r .vertexMap) w
+      → CoarseOn (r .mesh) (at (r .triangleMap) l) (at (r .vertexMap) w)
       → at (r .triangleMap) l ≡ 4 * coarseOf r k + suc i
-  stands-corner k i l w four b e (d, q) = omega (arith, same)
+  stands-corner k i l w four b e q = omega (arith, same)
     where
-      same : d ≡ 3 * coarseOf r k + i
-      same = R .is .proper .otherwise .different d (3 * coarseOf r k + i) (q .inside)
+      same : q .corner ≡ 3 * coarseOf r k + i
+      same = R .is .proper .otherwise .different (q .corner) (3 * coarseOf r k + i) (q .inside)
           (omega arith) (omega arith) (q .holds ∙ sym e)
 
   -- so the triangle over the side of a centre that ends at corner i stands at corner i of the coarse triangle
@@ -116,7 +84,9 @@ module _ (N : ℕ) (T : List ℕ) (P : Proper N T) (ρ : ℕ) (r : Reading) (R :
           → (w : ℕ) × Kept r w × On T l w × Opposite T k i w → at (r .triangleMap) l ≡ 4 * coarseOf r k + suc i
       go (x, _, a, e) (w, p, o, f) =
           let z : x ≡ w = opposite-unique N T (P .otherwise) r (R .is) k i x w c b a f in
-          stands-corner k i l w four b (e ∙ ap (at (r .vertexMap)) z) (kept-stands N T P r (R .is) l w o p)
+          stands-corner k i l w four b (e ∙ ap (at (r .vertexMap)) z)
+          (coarse-on (r .vertices) (r .mesh) (R .is .proper .otherwise) (at (r .triangleMap) l) (at (r .vertexMap) w)
+          (p .coarse) (on-there N T (P .otherwise) r (R .is) l w o))
 
   -- and there is such a triangle
   corner-triangle : (k i : ℕ) → Centre r k → i < 3
@@ -125,10 +95,10 @@ module _ (N : ℕ) (T : List ℕ) (P : Proper N T) (ρ : ℕ) (r : Reading) (R :
     where
       go : (w : ℕ) × Kept r w × Opposite T k i w
           → (l : ℕ) × Side T k i l × (at (r .triangleMap) l ≡ 4 * coarseOf r k + suc i)
-      go (w, _, a) = (a .other, side, returned-corner k i (a .other) c b (a .another) side)
+      go (w, _, a) = (a .other, over, returned-corner k i (a .other) c b (a .another) over)
         where
-          side : Side T k i (a .other)
-          side = across-edge T k _ _ w (edge-at N T (P .otherwise) r (R .is) k i c b .differ) a
+          over : Side T k i (a .other)
+          over = across-edge (edge-at N T (P .otherwise) r (R .is) k i c b .differ) a
 
   -- the vertex at corner i of a centre is matched to the one on half-edge i of the coarse triangle
   returned-between : (k i : ℕ) → Centre r k → i < 3
@@ -138,7 +108,7 @@ module _ (N : ℕ) (T : List ℕ) (P : Proper N T) (ρ : ℕ) (r : Reading) (R :
       v : ℕ
       v = at T (3 * k + i)
 
-      on : (l t : ℕ) → On T l v → at (r .triangleMap) l ≡ t → On (split (r .vertices) (r .mesh)) t (at (r .vertexMap) v)
+      on : (l t : ℕ) → On T l v → at (r .triangleMap) l ≡ t → On (splitting r) t (at (r .vertexMap) v)
       on l t o e = rw e at (on-there N T (P .otherwise) r (R .is) l v o)
 
       here : On T k v
@@ -152,31 +122,8 @@ module _ (N : ℕ) (T : List ℕ) (P : Proper N T) (ρ : ℕ) (r : Reading) (R :
           → at (r .vertexMap) v ≡ edgeNo (r .vertices) (r .mesh) (3 * coarseOf r k + i)
       go (l, f, d) (m, g, e) =
           let before : ((i + 1) % 3 + 2) % 3 ≡ i = omega arith in
-          common-between (r .vertices) (r .mesh) (R .is .proper .otherwise) (coarseOf r k) i (at (r .vertexMap) v) b new
-          (on l _ (f .otherEnd) d) (on m _ (subst (λ (j : ℕ). On T m (at T (3 * k + j))) before (g .oneEnd)) e)
-
-  -- every vertex between is on a centre
-  between-centre : (v : ℕ) → Between r v → (k : ℕ) × Centre r k × On T k v
-  between-centre v b =
-      hit (edgeNo-hit (r .vertices) (r .mesh) (at (r .vertexMap) v) (b .new) (R .is .matched .vertices .below v below))
-    where
-      below : v < N
-      below = omega arith
-
-      centre : (h : ℕ) → h < length (r .mesh) → edgeNo (r .vertices) (r .mesh) h ≡ at (r .vertexMap) v
-          → (k : ℕ) × Centre r k × (coarseOf r k ≡ h / 3) → (k : ℕ) × Centre r k × On T k v
-      centre h l e (k, c, d) = (
-        k,
-        c,
-        on-from N T (P .otherwise) r (R .is) k v (centre-below N T (P .otherwise) r (R .is) k c) below
-            (split-on (r .vertices) (r .mesh) (R .is .proper .otherwise .whole) _ _
-            (OnSplit.edge h l (sym d) (inl (c .fourth)) e)),
-      )
-
-      hit : (h : ℕ) × (h < length (r .mesh)) × (edgeNo (r .vertices) (r .mesh) h ≡ at (r .vertexMap) v)
-          → (k : ℕ) × Centre r k × On T k v
-      hit (h, l, e) = centre h l e
-          (centre-numbers N T (P .otherwise) r (R .is) .onto (h / 3) (omega arith))
+          common-between (r .vertices) (r .mesh) (R .is .proper .otherwise) (coarseOf r k) i (at (r .vertexMap) v) b
+          new (on l _ (f .otherEnd) d) (on m _ (subst (λ (j : ℕ). On T m (at T (3 * k + j))) before (g .oneEnd)) e)
 
 -- ---- from the start of the role
 
@@ -208,11 +155,11 @@ module _ (N : ℕ) (T : List ℕ) (P : Proper N T) (some : 0 < triangles T) (W :
 
   -- so the reading numbers the vertices of the reached rows
   vertex-numbers : Numbers (InRow W s) (at (r .vertexMap)) (r .vertices)
-  vertex-numbers = numbers-as kept-in-row in-row-kept (kept-numbers N T (P .otherwise) r (R .is))
+  vertex-numbers = numbers-of in-row-kept kept-in-row (kept-numbers N T (P .otherwise) r (R .is))
 
   -- and the rows
   row-numbers : Numbers (Reach W s) (coarseOf r) (triangles (r .mesh))
-  row-numbers = numbers-as centre-reach reach-centre (centre-numbers N T (P .otherwise) r (R .is))
+  row-numbers = numbers-of reach-centre centre-reach (centre-numbers N T (P .otherwise) r (R .is))
 
   -- ---- the numbers of the reached rows and of their vertices are those of the reading
 
@@ -243,8 +190,7 @@ module _ (N : ℕ) (T : List ℕ) (P : Proper N T) (some : 0 < triangles T) (W :
 
     -- a quarter of the triangles
     pub ranked-quarter : triangles T ≡ 4 * F
-    ranked-quarter =
-        omega (arith, ranked-triangles, match-size (R .is .matched .faces), split-triangles (r .vertices) (r .mesh))
+    ranked-quarter = omega (arith, ranked-triangles, quarter (R .is))
 
     -- the rank of a vertex is its number in the reading
     pub ranked-kept : (v : ℕ) → InRow W s v → at rank v ≡ at (r .vertexMap) v
@@ -353,28 +299,29 @@ module _ (N : ℕ) (T : List ℕ) (P : Proper N T) (some : 0 < triangles T) (W :
         corner (k, c, o) =
             let p : Reach W s k = centre-reach k c in
             let b : o .corner % 3 < 3 = omega arith in
-            subst (λ (u : ℕ). at vm u ≡ at (r .vertexMap) u) (on-entry o)
+            subst (λ (u : ℕ). at vm u ≡ at (r .vertexMap) u) (on-place o)
             (between k (o .corner % 3) p b ∙ sym (built-between k (o .corner % 3) p b))
 
         go : Kept r v ⊎ Between r v → at vm v ≡ at (r .vertexMap) v
         go (inl q) = kept v (kept-in-row v q) ∙ built-kept v (kept-in-row v q)
-        go (inr q) = corner (between-centre N T P ρ r R v q)
+        go (inr q) = corner (between-on N T (P .otherwise) r (R .is) v q)
 
     -- as is a triangle map that passes `centres` and `corners`
     pub found-triangles : (tm : List ℕ) → ((k : ℕ) → Reach W s k → at tm k ≡ 4 * at tile k)
         → ((k i l : ℕ) → Reach W s k → i < 3 → l ≢ k → HasEdge T l (at T (3 * k + (i + 2) % 3)) (at T (3 * k + i))
         → at tm l ≡ 4 * at tile k + suc i)
         → (k : ℕ) → k < triangles T → at tm k ≡ at (r .triangleMap) k
-    found-triangles tm centres corners k l = go (centre-or-not N T (P .otherwise) r (R .is) k l)
+    found-triangles tm centres corners k l = go (role-exists N T P r (R .is) k l)
       where
         corner : (j : ℕ) → Reach W s j → k ≢ j → (i : ℕ) × (i < 3) × Side T j i k → at tm k ≡ at (r .triangleMap) k
         corner j p n (i, b, h) = corners j i k p b n h ∙ sym (built-corner j i k p b n h)
 
-        beside : (Centre r k → ⊥) → (j : ℕ) × Centre r j × Share T j k × (coarseOf r k ≡ coarseOf r j)
+        over : (i : ℕ) → i < 3 → CentreOver T r k (at T (3 * k + (i + 1) % 3)) (at T (3 * k + (i + 2) % 3))
             → at tm k ≡ at (r .triangleMap) k
-        beside d (j, c, h, _) =
-            corner j (centre-reach j c) (λ e. d (subst (Centre r) (sym e) c)) (share-side h)
+        over i b c = corner (c .triangle) (centre-reach (c .triangle) (c .is)) (λ e. c .other (sym e))
+            (edge-side (c .has)
+            (side (P .otherwise) k ((i + 1) % 3) ((i + 2) % 3) l (omega arith) (omega arith) (omega arith)))
 
-        go : Centre r k ⊎ (Centre r k → ⊥) → at tm k ≡ at (r .triangleMap) k
-        go (inl c) = centres k (centre-reach k c) ∙ built-centre k (centre-reach k c)
-        go (inr d) = beside d (corner-beside N T P r (R .is) k l d)
+        go : (σ : ℕ) × (σ ≤ 3) × RoleOf T r k σ → at tm k ≡ at (r .triangleMap) k
+        go (σ, _, RoleOf.centre c) = centres k (centre-reach k c) ∙ built-centre k (centre-reach k c)
+        go (σ, _, RoleOf.corner i b _ p) = over i b (corner-over N T (P .otherwise) r (R .is) k i l b p)

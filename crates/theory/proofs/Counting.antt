@@ -7,6 +7,7 @@ use mathlib.Core.Path.{_≡_, refl}
 use mathlib.Core.Bool.{Bool, true, false}
 use lib.Dec.{T}
 use Rattle.theory.specs.Counting.{bit, count, firstFrom}
+use Rattle.theory.proofs.Finite.{neither-less}
 
 -- ---- count
 
@@ -45,12 +46,8 @@ count-grows test m n l t =
 
 -- numbers that pass have different counts
 pub count-injective : (test : ℕ → Bool) (m n : ℕ) → T (test m) → T (test n) → count test m ≡ count test n → m ≡ n
-count-injective test m n s t e = go (decLt m n) (decLt n m)
-  where
-    go : Dec (m < n) → Dec (n < m) → m ≡ n
-    go (yes l) _ = absurd (omega (arith, count-grows test m n l s))
-    go (no k) (yes l) = absurd (omega (arith, count-grows test n m l t))
-    go (no k) (no l) = omega arith
+count-injective test m n s t e = neither-less
+    (λ l. absurd (omega (arith, count-grows test m n l s))) (λ l. absurd (omega (arith, count-grows test n m l t)))
 
 -- every number below the whole count is the count before some number that passes
 pub count-hit : (test : ℕ → Bool) (n y : ℕ) → y < count test n → (i : ℕ) × (i < n) × T (test i) × (count test i ≡ y)

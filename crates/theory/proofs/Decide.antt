@@ -3,279 +3,52 @@
 -- (`..-complete`), and the decision made from these (`..?`).
 -- Whoever computes with a test or a decision says `unfolding` and its name: it opens all that it is made of.
 use Prim.Native.Nat.{ℕ, zero, suc, _+_, _-_, _*_, _/_, _%_, _≤_, _<_, min}
-use native.Mathlib.Decide.{ℕ-discrete, decLt}
 use native.Mathlib.Omega.{arith}
 use mathlib.Core.Path.{_≡_, refl, sym, ap, _∙_, subst}
 use mathlib.Core.Logic.{_≢_, _⊎_, inl, inr}
-use mathlib.Core.Bool.{Bool, true, false, not, cond, _&&_, _||_}
+use mathlib.Core.Bool.{Bool, true, false, not, _&&_}
 use mathlib.Core.List.{List, [], _∷_, _++_, List·Memᴰ as Member, List·Memᴰ·head as first, List·Memᴰ·tail as later}
 use mathlib.Core.List.{Memᴰ·cast as member-cast, Memᴰ·append-left as member-left, Memᴰ·append-right as member-right}
 use mathlib.Core.List.{List·Memᴰ·append-cases as member-append}
-use lib.Dec.{T as So, T-not, not-T, eqb, ltb, eqb→eq, eqb-refl, ltb→lt, lt→ltb}
+use lib.Dec.{T as So, T-not, not-T, eqb, ltb, eqb→eq, ltb→lt, lt→ltb}
 use lib.ListN.{length, take, drop, length-append, length-take, length-drop}
 use lib.Seq.{getD-take, getD-drop}
 use Rattle.theory.specs.Mesh.{at, triangles, On, HasEdge, Same, Share, Reach, here, step}
 use Rattle.theory.specs.Mesh.{OtherwiseProper, Proper}
-
--- ---- Bool tests
-
--- a test that is right both ways decides
-abbrev pub decided : {P : Type 0} (b : Bool) → (So b → P) → (P → So b) → Dec P
-decided true sound complete = yes (sound tt)
-decided false sound complete = no complete
-
--- both pass
-pub and-sound : (a b : Bool) → So (a && b) → So a × So b
-and-sound true b t = (tt, t)
-and-sound false b t = absurd t
-
--- two that pass, pass together
-pub and-complete : (a b : Bool) → So a → So b → So (a && b)
-and-complete true b s t = t
-and-complete false b s t = absurd s
-
--- all five pass
-pub and₅-sound : (a b c d e : Bool) → So (a && (b && (c && (d && e)))) → So a × So b × So c × So d × So e
-and₅-sound true true true true e t = (tt, tt, tt, tt, t)
-and₅-sound true true true false e t = absurd t
-and₅-sound true true false d e t = absurd t
-and₅-sound true false c d e t = absurd t
-and₅-sound false b c d e t = absurd t
-
--- five that pass, pass together
-pub and₅-complete : (a b c d e : Bool) → So a → So b → So c → So d → So e → So (a && (b && (c && (d && e))))
-and₅-complete a b c d e p q r s t =
-    and-complete a _ p (and-complete b _ q (and-complete c _ r (and-complete d e s t)))
-
--- one of the two passes
-or-sound : (a b : Bool) → So (a || b) → So a ⊎ So b
-or-sound true b t = inl tt
-or-sound false b t = inr t
-
--- it is enough that the first passes
-or-left : (a b : Bool) → So a → So (a || b)
-or-left true b t = tt
-or-left false b t = absurd t
-
--- or that the second does
-or-right : (a b : Bool) → So b → So (a || b)
-or-right true b t = tt
-or-right false b t = t
-
--- equal numbers pass the test for equality
-pub eq→eqb : (m n : ℕ) → m ≡ n → So (eqb m n)
-eq→eqb m n e = rw e (eqb-refl n)
-
--- ---- tests of lists
-
--- whether some entry passes
-unfoldable pub someOf : (ℕ → Bool) → List ℕ → Bool
-someOf test [] = false
-someOf test (x ∷ xs) =
-    let r : Bool = someOf test xs in
-    test x || r
-
--- then one of them passes
-pub someOf-sound : (test : ℕ → Bool) (xs : List ℕ) → So (someOf test xs) → (x : ℕ) × Member x xs × So (test x)
-unfolding someOf
-someOf-sound test [] t = absurd t
-someOf-sound test (x ∷ xs) t = go (someOf-sound test xs) (or-sound (test x) (someOf test xs) t)
-  where
-    go : (So (someOf test xs) → (y : ℕ) × Member y xs × So (test y)) → So (test x) ⊎ So (someOf test xs)
-        → (y : ℕ) × Member y (x ∷ xs) × So (test y)
-    go below (inl s) = (x, first refl, s)
-    go below (inr s) = (below s .0, later (below s .1), below s .2)
-
--- it is enough that one passes
-pub someOf-complete : (test : ℕ → Bool) (xs : List ℕ) (x : ℕ) → Member x xs → So (test x) → So (someOf test xs)
-unfolding someOf
-someOf-complete test (x ∷ xs) y (first e) t = or-left (test x) (someOf test xs) (rw e at t)
-someOf-complete test (x ∷ xs) y (later m) t = or-right (test x) (someOf test xs) (someOf-complete test xs y m t)
-
--- whether all entries pass
-unfoldable pub allOf : (ℕ → Bool) → List ℕ → Bool
-allOf test [] = true
-allOf test (x ∷ xs) =
-    let r : Bool = allOf test xs in
-    test x && r
-
--- then each passes
-allOf-sound : (test : ℕ → Bool) (xs : List ℕ) → So (allOf test xs) → (x : ℕ) → Member x xs → So (test x)
-unfolding allOf
-allOf-sound test (x ∷ xs) t y (first e) = rw e (and-sound (test x) (allOf test xs) t .0)
-allOf-sound test (x ∷ xs) t y (later m) = allOf-sound test xs (and-sound (test x) (allOf test xs) t .1) y m
-
--- it is enough that each passes
-allOf-complete : (test : ℕ → Bool) (xs : List ℕ) → ((x : ℕ) → Member x xs → So (test x)) → So (allOf test xs)
-unfolding allOf
-allOf-complete test [] h = tt
-allOf-complete test (x ∷ xs) h =
-    and-complete (test x) (allOf test xs) (h x (first refl)) (allOf-complete test xs (λ y m. h y (later m)))
-
--- whether the number is an entry
-unfoldable pub isIn : ℕ → List ℕ → Bool
-unfolding someOf
-isIn v xs = someOf (eqb v) xs
-
--- then it is an entry
-isIn-sound : (v : ℕ) (xs : List ℕ) → So (isIn v xs) → Member v xs
-unfolding isIn
-isIn-sound v xs t = go (someOf-sound (eqb v) xs t)
-  where
-    go : (x : ℕ) × Member x xs × So (eqb v x) → Member v xs
-    go (x, m, e) = member-cast (eqb→eq v x e) m
-
--- an entry is found
-isIn-complete : (v : ℕ) (xs : List ℕ) → Member v xs → So (isIn v xs)
-unfolding isIn
-isIn-complete v xs m = someOf-complete (eqb v) xs v m (eqb-refl v)
-
--- the entries that pass, in order
-unfoldable pub passing : (ℕ → Bool) → List ℕ → List ℕ
-passing test [] = []
-passing test (x ∷ xs) =
-    let r : List ℕ = passing test xs in
-    cond (test x) (x ∷ r) r
-
--- what is kept is an entry that passes
-passing-sound : (test : ℕ → Bool) (xs : List ℕ) (y : ℕ) → Member y (passing test xs) → Member y xs × So (test y)
-unfolding passing
-passing-sound test [] y m = elim m [ ]
-passing-sound test (x ∷ xs) y m = go (passing-sound test xs y) (test x) refl m
-  where
-    go : (Member y (passing test xs) → Member y xs × So (test y)) → (b : Bool) → test x ≡ b
-        → Member y (cond b (x ∷ passing test xs) (passing test xs)) → Member y (x ∷ xs) × So (test y)
-    go below true e (first p) = (first p, rw (p, e) tt)
-    go below true e (later n) = (later (below n .0), below n .1)
-    go below false e n = (later (below n .0), below n .1)
-
--- an entry that passes is kept
-passing-complete : (test : ℕ → Bool) (xs : List ℕ) (y : ℕ) → Member y xs → So (test y) → Member y (passing test xs)
-unfolding passing
-passing-complete test (x ∷ xs) y (first p) t = go (test x) (rw p at t)
-  where
-    go : (b : Bool) → So b → Member y (cond b (x ∷ passing test xs) (passing test xs))
-    go true s = first p
-    go false s = absurd s
-passing-complete test (x ∷ xs) y (later m) t = go (test x) (passing-complete test xs y m t)
-  where
-    go : (b : Bool) → Member y (passing test xs) → Member y (cond b (x ∷ passing test xs) (passing test xs))
-    go true n = later n
-    go false n = n
-
--- where no entry passes two tests, no more are kept by the two together than there are
-passing-length : (f g : ℕ → Bool) (xs : List ℕ) → ((x : ℕ) → Member x xs → So (f x) → So (g x) → ⊥)
-    → length (passing f xs) + length (passing g xs) ≤ length xs
-unfolding passing
-passing-length f g [] clash = omega arith
-passing-length f g (x ∷ xs) clash =
-    go (f x) (g x) (clash x (first refl)) (passing-length f g xs (λ y m. clash y (later m)))
-  where
-    go : (a b : Bool) → (So a → So b → ⊥) → length (passing f xs) + length (passing g xs) ≤ length xs
-        → length (cond a (x ∷ passing f xs) (passing f xs)) + length (cond b (x ∷ passing g xs) (passing g xs))
-        ≤ suc (length xs)
-    go true true c l = absurd (c tt tt)
-    go true false c l = omega arith
-    go false true c l = omega arith
-    go false false c l = omega arith
-
--- ---- the numbers below a bound
-
--- n - 1, .., 0
-unfoldable pub numbers : ℕ → List ℕ
-numbers zero = []
-numbers (suc n) = n ∷ numbers n
-
--- there are n of them
-numbers-length : (n : ℕ) → length (numbers n) ≡ n
-unfolding numbers
-numbers-length zero = refl
-numbers-length (suc n) = ap suc (numbers-length n)
-
--- each is below n
-pub numbers-below : (n i : ℕ) → Member i (numbers n) → i < n
-unfolding numbers
-numbers-below (suc n) i (first e) = omega arith
-numbers-below (suc n) i (later m) = omega (arith, numbers-below n i m)
-
--- each number below n is one of them
-pub below-numbers : (n i : ℕ) → i < n → Member i (numbers n)
-unfolding numbers
-below-numbers zero i l = absurd (omega arith)
-below-numbers (suc n) i l = go (below-numbers n i) (ℕ-discrete i n)
-  where
-    go : (i < n → Member i (numbers n)) → Dec (i ≡ n) → Member i (n ∷ numbers n)
-    go below (yes e) = first e
-    go below (no d) = later (below (omega arith))
-
--- whether all numbers below n pass
-unfoldable pub allBelow : (ℕ → Bool) → ℕ → Bool
-unfolding allOf numbers
-allBelow test n = allOf test (numbers n)
-
--- then each passes
-pub allBelow-sound : (test : ℕ → Bool) (n : ℕ) → So (allBelow test n) → (i : ℕ) → i < n → So (test i)
-unfolding allBelow
-allBelow-sound test n t i l = allOf-sound test (numbers n) t i (below-numbers n i l)
-
--- it is enough that each passes
-pub allBelow-complete : (test : ℕ → Bool) (n : ℕ) → ((i : ℕ) → i < n → So (test i)) → So (allBelow test n)
-unfolding allBelow
-allBelow-complete test n h = allOf-complete test (numbers n) (λ i m. h i (numbers-below n i m))
-
--- ---- entries and their places
-
--- what stands at a place of the list is an entry
-at-member : (xs : List ℕ) (i : ℕ) → i < length xs → Member (at xs i) xs
-at-member [] i l = absurd (omega arith)
-at-member (x ∷ xs) zero l = first refl
-at-member (x ∷ xs) (suc i) l = later (at-member xs i (omega arith))
-
--- an entry stands at some place
-member-at : {v : ℕ} {xs : List ℕ} → Member v xs → (i : ℕ) × (i < length xs) × (at xs i ≡ v)
-member-at (first e) = (0, omega arith, sym e)
-member-at {v} (later {x} {xs} m) = go (member-at m)
-  where
-    go : (i : ℕ) × (i < length xs) × (at xs i ≡ v) → (i : ℕ) × (i < length (x ∷ xs)) × (at (x ∷ xs) i ≡ v)
-    go (i, l, e) = (suc i, omega arith, e)
-
--- whether no entry stands twice
-unfoldable pub allApart : List ℕ → Bool
-unfolding isIn
-allApart [] = true
-allApart (x ∷ xs) =
-    let r : Bool = allApart xs in
-    not (isIn x xs) && r
-
--- then no entry after the first is equal to it
-first-apart : (x : ℕ) (xs : List ℕ) (j : ℕ) → So (allApart (x ∷ xs)) → j < length xs → x ≡ at xs j → ⊥
-unfolding allApart
-first-apart x xs j t l e =
-    T-not (isIn x xs) (and-sound (not (isIn x xs)) (allApart xs) t .0)
-    (isIn-complete x xs (member-cast e (at-member xs j l)))
-
--- and equal entries stand at one place
-pub allApart-sound : (xs : List ℕ) → So (allApart xs)
-    → (i j : ℕ) → i < length xs → j < length xs → at xs i ≡ at xs j → i ≡ j
-unfolding allApart
-allApart-sound [] t i j l m e = absurd (omega arith)
-allApart-sound (x ∷ xs) t zero zero l m e = refl
-allApart-sound (x ∷ xs) t zero (suc j) l m e = absurd (first-apart x xs j t (omega arith) e)
-allApart-sound (x ∷ xs) t (suc i) zero l m e = absurd (first-apart x xs i t (omega arith) (sym e))
-allApart-sound (x ∷ xs) t (suc i) (suc j) l m e =
-    ap suc (allApart-sound xs (and-sound (not (isIn x xs)) (allApart xs) t .1) i j (omega arith) (omega arith) e)
-
--- where equal entries stand at one place, no entry stands twice
-pub allApart-complete : (xs : List ℕ) → ((i j : ℕ) → i < length xs → j < length xs → at xs i ≡ at xs j → i ≡ j)
-    → So (allApart xs)
-unfolding allApart
-allApart-complete [] h = tt
-allApart-complete (x ∷ xs) h =
-    and-complete (not (isIn x xs)) (allApart xs) (not-T (isIn x xs) (λ t. go (member-at (isIn-sound x xs t))))
-    (allApart-complete xs (λ i j l m e. omega (arith, h (suc i) (suc j) (omega arith) (omega arith) e)))
-  where
-    go : (i : ℕ) × (i < length xs) × (at xs i ≡ x) → ⊥
-    go (i, l, e) = omega (arith, h (suc i) 0 (omega arith) (omega arith) e)
+use Rattle.theory.proofs.Tests.{
+  decided,
+  and-sound,
+  and-complete,
+  and₅-sound,
+  and₅-complete,
+  eq→eqb,
+  allOf,
+  allOf-sound,
+  allOf-complete,
+  isIn,
+  isIn-sound,
+  isIn-complete,
+  someDiffer,
+  someDiffer-sound,
+  someDiffer-complete,
+  passing,
+  passing-sound,
+  passing-complete,
+  passing-length,
+  numbers,
+  numbers-length,
+  below-numbers,
+  allBelow,
+  allBelow-sound,
+  allBelow-complete,
+  at-member,
+  member-at,
+  allApart,
+  allApart-sound,
+  allApart-complete,
+}
+use Rattle.theory.proofs.Finite.{neither-less}
+use Rattle.theory.proofs.Mesh.{same-sym}
 
 -- ---- On and HasEdge
 
@@ -298,14 +71,14 @@ corners-corner : (T : List ℕ) (c k : ℕ) → c / 3 ≡ k → at (corners T k)
 corners-corner T c k e = corners-at T k (c % 3) (omega arith) ∙ ap (at T) (omega arith)
 
 -- what is on a triangle stands at one of its corners
-on-corner : (T : List ℕ) (k v : ℕ) → On T k v → Member v (corners T k)
-on-corner T k v o =
+on-member : (T : List ℕ) (k v : ℕ) → On T k v → Member v (corners T k)
+on-member T k v o =
     member-cast (sym (o .holds) ∙ sym (corners-corner T (o .corner) k (o .triangle)))
     (at-member (corners T k) (o .corner % 3) (omega (arith, corners-length T k)))
 
 -- what stands at a corner of a triangle is on it
-corner-on : (T : List ℕ) (k v : ℕ) → Member v (corners T k) → On T k v
-corner-on T k v m = go (member-at m)
+member-on : (T : List ℕ) (k v : ℕ) → Member v (corners T k) → On T k v
+member-on T k v m = go (member-at m)
   where
     go : (i : ℕ) × (i < length (corners T k)) × (at (corners T k) i ≡ v) → On T k v
     go (i, l, e) =
@@ -324,11 +97,11 @@ onTest T k v = isIn v (corners T k)
 
 pub onTest-sound : (T : List ℕ) (k v : ℕ) → So (onTest T k v) → On T k v
 unfolding onTest
-onTest-sound T k v t = corner-on T k v (isIn-sound v (corners T k) t)
+onTest-sound T k v t = member-on T k v (isIn-sound v (corners T k) t)
 
 pub onTest-complete : (T : List ℕ) (k v : ℕ) → On T k v → So (onTest T k v)
 unfolding onTest
-onTest-complete T k v o = isIn-complete v (corners T k) (on-corner T k v o)
+onTest-complete T k v o = isIn-complete v (corners T k) (on-member T k v o)
 
 unfoldable pub on? : (T : List ℕ) (k v : ℕ) → Dec (On T k v)
 unfolding onTest
@@ -371,14 +144,14 @@ coversTest T k S l = allOf (onTest S l) (corners T k)
 -- then so is all that is on k, since it stands at a corner
 coversTest-sound : (T : List ℕ) (k : ℕ) (S : List ℕ) (l : ℕ) → So (coversTest T k S l) → (v : ℕ) → On T k v → On S l v
 unfolding coversTest
-coversTest-sound T k S l t v o = onTest-sound S l v (allOf-sound (onTest S l) (corners T k) t v (on-corner T k v o))
+coversTest-sound T k S l t v o = onTest-sound S l v (allOf-sound (onTest S l) (corners T k) t v (on-member T k v o))
 
 -- and the corners are on k
 coversTest-complete : (T : List ℕ) (k : ℕ) (S : List ℕ) (l : ℕ) → ((v : ℕ) → On T k v → On S l v)
     → So (coversTest T k S l)
 unfolding coversTest
 coversTest-complete T k S l h =
-    allOf-complete (onTest S l) (corners T k) (λ v m. onTest-complete S l v (h v (corner-on T k v m)))
+    allOf-complete (onTest S l) (corners T k) (λ v m. onTest-complete S l v (h v (member-on T k v m)))
 
 -- each covers the other
 unfoldable pub sameTest : List ℕ → ℕ → List ℕ → ℕ → Bool
@@ -402,35 +175,7 @@ unfoldable pub same? : (T : List ℕ) (k : ℕ) (S : List ℕ) (l : ℕ) → Dec
 unfolding sameTest
 same? T k S l = decided (sameTest T k S l) (sameTest-sound T k S l) (sameTest-complete T k S l)
 
--- sameness goes both ways
-pub same-sym : {T : List ℕ} {k : ℕ} {S : List ℕ} {l : ℕ} → Same T k S l → Same S l T k
-same-sym s = record { there = s .back; back = s .there }
-
 -- ---- Share
-
--- whether there are two different entries
-unfoldable pub someDiffer : List ℕ → Bool
-unfolding someOf
-someDiffer xs = someOf (λ u. someOf (λ v. not (eqb u v)) xs) xs
-
--- then there are two
-someDiffer-sound : (xs : List ℕ) → So (someDiffer xs) → (u : ℕ) × (v : ℕ) × Member u xs × Member v xs × (u ≢ v)
-unfolding someDiffer
-someDiffer-sound xs t = outer (someOf-sound _ xs t)
-  where
-    inner : (u : ℕ) → Member u xs → (v : ℕ) × Member v xs × So (not (eqb u v))
-        → (u : ℕ) × (v : ℕ) × Member u xs × Member v xs × (u ≢ v)
-    inner u m (v, n, d) = (u, v, m, n, λ e. T-not (eqb u v) d (eq→eqb u v e))
-
-    outer : (u : ℕ) × Member u xs × So (someOf (λ v. not (eqb u v)) xs)
-        → (u : ℕ) × (v : ℕ) × Member u xs × Member v xs × (u ≢ v)
-    outer (u, m, s) = inner u m (someOf-sound _ xs s)
-
--- two are enough
-someDiffer-complete : (xs : List ℕ) (u v : ℕ) → Member u xs → Member v xs → u ≢ v → So (someDiffer xs)
-unfolding someDiffer
-someDiffer-complete xs u v m n d =
-    someOf-complete _ xs u m (someOf-complete _ xs v n (not-T (eqb u v) (λ t. d (eqb→eq u v t))))
 
 -- the vertices of k that are on l
 unfoldable pub common : List ℕ → ℕ → ℕ → List ℕ
@@ -443,13 +188,13 @@ unfolding common
 common-sound T k l v m = go (passing-sound (onTest T l) (corners T k) v m)
   where
     go : Member v (corners T k) × So (onTest T l v) → On T k v × On T l v
-    go (n, t) = (corner-on T k v n, onTest-sound T l v t)
+    go (n, t) = (member-on T k v n, onTest-sound T l v t)
 
 -- and all that are on both
 common-complete : (T : List ℕ) (k l v : ℕ) → On T k v → On T l v → Member v (common T k l)
 unfolding common
 common-complete T k l v o p =
-    passing-complete (onTest T l) (corners T k) v (on-corner T k v o) (onTest-complete T l v p)
+    passing-complete (onTest T l) (corners T k) v (on-member T k v o) (onTest-complete T l v p)
 
 -- two different vertices are on both
 unfoldable pub shareTest : List ℕ → ℕ → ℕ → Bool
@@ -477,31 +222,6 @@ shareTest-complete T k l s =
 unfoldable pub share? : (T : List ℕ) (k l : ℕ) → Dec (Share T k l)
 unfolding shareTest
 share? T k l = decided (shareTest T k l) (shareTest-sound T k l) (shareTest-complete T k l)
-
--- ---- laws of Share and Reach
-
--- a shared edge is shared both ways
-pub share-sym : {T : List ℕ} {k l : ℕ} → Share T k l → Share T l k
-share-sym s = record { u = s .u; v = s .v; one = s .other; other = s .one }
-
--- one way after another
-pub reach-trans : {T : List ℕ} {k l m : ℕ} → Reach T k l → Reach T l m → Reach T k m
-reach-trans r here = r
-reach-trans r (step q s) = step (reach-trans r q) s
-
--- the way back
-pub reach-sym : {T : List ℕ} {k l : ℕ} → Reach T k l → Reach T l k
-reach-sym here = here
-reach-sym (step q s) = reach-trans (step here (share-sym s)) (reach-sym q)
-
--- what is on a triangle, even a last one of fewer than three corners, is on one up to F
-pub on-le : {T : List ℕ} {k v : ℕ} → On T k v → k ≤ triangles T
-on-le o = omega arith
-
--- steps over edges stay inside the mesh
-pub reach-below : {T : List ℕ} {k l : ℕ} → Reach T k l → k < triangles T → length T ≡ 3 * triangles T → l < triangles T
-reach-below here l whole = l
-reach-below (step q s) l whole = omega (arith, s .other .oneEnd)
 
 -- ---- Reach
 
@@ -635,6 +355,10 @@ reachTest-sound T k l t =
     start i (first e) = rw e here
     start i (later m) = elim m [ ]
 
+-- what is on a triangle, even a last one of fewer than three corners, is on one up to F
+pub on-le : {T : List ℕ} {k v : ℕ} → On T k v → k ≤ triangles T
+on-le o = omega arith
+
 -- step by step, none leaves the triangles reached
 reach-reached : {T : List ℕ} {k l : ℕ} → Reach T k l → Member l (reached T k)
 unfolding reached
@@ -726,17 +450,12 @@ unlikeTest T = allBelow (λ j. allBelow (λ k. not (sameTest T j T k)) j) (trian
 unlikeTest-sound : (T : List ℕ) → So (unlikeTest T)
     → (j k : ℕ) → j < triangles T → k < triangles T → Same T j T k → j ≡ k
 unfolding unlikeTest
-unlikeTest-sound T t j k l m s = go (decLt j k) (decLt k j)
+unlikeTest-sound T t j k l m s = neither-less (λ a. unlike k j m a (same-sym s)) (λ b. unlike j k l b s)
   where
     unlike : (i h : ℕ) → i < triangles T → h < i → Same T i T h → ⊥
     unlike i h a b r =
         T-not (sameTest T i T h) (allBelow-sound _ i (allBelow-sound _ (triangles T) t i a) h b)
         (sameTest-complete T i T h r)
-
-    go : Dec (j < k) → Dec (k < j) → j ≡ k
-    go (yes a) d = absurd (unlike k j m a (same-sym s))
-    go (no a) (yes b) = absurd (unlike j k l b s)
-    go (no a) (no b) = omega arith
 
 unlikeTest-complete : (T : List ℕ)
     → ((j k : ℕ) → j < triangles T → k < triangles T → Same T j T k → j ≡ k) → So (unlikeTest T)

@@ -1,21 +1,24 @@
--- `determined`: for each call, two results that satisfy its relation are equal. The first refusal that is given and its least
--- place are one; a list of rules is not both passed and refused; the choice of a role, the returned reading in it and the
--- levels of undo several are one.
-use Prim.Native.Nat.{ℕ, zero, suc, _+_, _*_, _/_, _%_, _≤_, _<_}
+-- `determined`: for each call, two results that satisfy its relation are equal. The first refusal that is given and
+-- its least place are one; a list of rules is not both passed and refused; the choice of a role, the returned reading
+-- in it and the levels of undo several are one.
+use Prim.Native.Nat.{ℕ, zero, suc, _*_, _%_, _<_}
 use native.Mathlib.Omega.{arith}
-use native.Mathlib.Decide.{ℕ-discrete, decLt}
+use native.Mathlib.Decide.{ℕ-discrete}
 use mathlib.Core.Path.{_≡_, refl, sym, ap, ap₂, _∙_, subst, subst₂}
-use mathlib.Core.Logic.{_≢_, _⊎_, inl, inr}
+use mathlib.Core.Logic.{inl, inr}
 use mathlib.Core.List.{List, [], _∷_, _++_}
 use lib.ListN.{length}
-use Rattle.theory.specs.Mesh.{at, triangles, Same, Proper}
+use Rattle.theory.specs.Mesh.{triangles, Same, Proper}
 use Rattle.theory.specs.Reading.{Reading, IsReading, Returned}
-use Rattle.theory.specs.Choice.{LeastRole, NoRole, Chosen, named, least, NoneChosen, Several, reached, stopped, undone, sevenPlaces}
-use Rattle.theory.specs.Refusals.{Rule, Room, notThrees, noTriangle, meshRules, noReading, LeastPlace, Passed, Refused}
-use Rattle.theory.specs.Calls.{Answer, OneAnswer, SeveralAnswer, Outputs, refusal, accepted, written, writtenReading, Splits, undoOneRules, UndoesOne, UndoesSeveral}
-use Rattle.theory.specs.Frames.{Frames, mesh, readFrames, ReadsFrames, WritesFrames}
+use Rattle.theory.specs.Choice.{LeastRole, Chosen, named, least, NoneChosen}
+use Rattle.theory.specs.Choice.{Several, reached, stopped, undone, sevenPlaces}
+use Rattle.theory.specs.Refusals.{Rule, Room, notThrees, noTriangle, meshRules, noReading}
+use Rattle.theory.specs.Refusals.{LeastPlace, Passed, Refused}
+use Rattle.theory.specs.Calls.{Answer, OneAnswer, SeveralAnswer, Outputs, refusal, accepted}
+use Rattle.theory.specs.Calls.{written, writtenReading, Splits, undoOneRules, UndoesOne, UndoesSeveral}
+use Rattle.theory.specs.Frames.{Frames, mesh, ReadsFrames, WritesFrames}
 use Rattle.theory.specs.Program.{answerLine, readingText, PrintsMesh, Prints, tooLong, notRead, read}
-use Rattle.theory.proofs.Finite.{match-size}
+use Rattle.theory.proofs.Finite.{neither-less, match-size}
 use Rattle.theory.proofs.Splitting.{split-triangles}
 use Rattle.theory.proofs.Unique.{returned-unique}
 use Rattle.theory.proofs.Refusals.{passed-proper}
@@ -23,12 +26,8 @@ use Rattle.theory.proofs.Refusals.{passed-proper}
 -- ---- the first refusal and its place
 
 least-place-unique : {given : ℕ → Type 0} {p q : ℕ} → LeastPlace given p → LeastPlace given q → p ≡ q
-least-place-unique {given} {p} {q} a b = go (decLt p q) (decLt q p)
-  where
-    go : Dec (p < q) → Dec (q < p) → p ≡ q
-    go (yes l) d = absurd (b .before p l (a .here))
-    go (no h) (yes l) = absurd (a .before q l (b .here))
-    go (no h) (no g) = omega arith
+least-place-unique {given} {p} {q} a b =
+    neither-less (λ l. b .before p l (a .here)) (λ l. a .before q l (b .here))
 
 -- two refusals by one list of rules have one number and one place
 pub refused-unique : (rules : List Rule) (m p n q : ℕ) → Refused rules m p → Refused rules n q → (m ≡ n) × (p ≡ q)
@@ -86,12 +85,14 @@ one-more role y = record { levels = suc (y .levels); roles = role ∷ y .roles; 
 -- undo several leaves one mesh, by one list of roles
 pub several-unique : (allowance : ℕ) {N l m M M′ : ℕ} {T ρs σs C C′ : List ℕ} → Proper N T → 0 < triangles T
     → Several allowance N T l ρs M C → Several allowance N T m σs M′ C′
-    → Path Yield (record { levels = l; roles = ρs; vertices = M; mesh = C }) (record { levels = m; roles = σs; vertices = M′; mesh = C′ })
+    → Path Yield (record { levels = l; roles = ρs; vertices = M; mesh = C })
+    (record { levels = m; roles = σs; vertices = M′; mesh = C′ })
 several-unique zero P l reached reached = refl
 several-unique (suc n) P l (stopped a) (stopped b) = refl
 several-unique (suc n) P l (stopped a) (undone r b R S) = absurd (a .none _ (b .has))
 several-unique (suc n) P l (undone r b R S) (stopped a) = absurd (a .none _ (b .has))
-several-unique (suc n) {T = T} P l (undone {role = ρ} r a R S) (undone {levels = m} {role = σ} {M = M′} {roles = σs} {C = C′} s b R′ S′) =
+several-unique (suc n) {T = T} P l (undone {role = ρ} r a R S)
+    (undone {levels = m} {role = σ} {M = M′} {roles = σs} {C = C′} s b R′ S′) =
     let same-role : ρ ≡ σ = least-role-unique a b in
     let same-reading : s ≡ r = returned-unique _ T P s r ρ l (rw same-role R′) R in
     ap₂ one-more same-role
@@ -132,16 +133,19 @@ splits-determined (Splits.accepts R e f g) (Splits.refuses n j S e′ f′ g′)
 splits-determined (Splits.accepts R e f g) (Splits.accepts S e′ f′ g′) = (e ∙ sym e′, f ∙ sym f′, g ∙ sym g′)
 
 -- where undo one refuses nothing, the role chosen and the reading returned in it are one
-one-result : {N : ℕ} {T : List ℕ} {asked ρ σ : ℕ} {r s : Reading} (rooms : List Room) → Passed (undoOneRules N T asked rooms)
+one-result : {N : ℕ} {T : List ℕ} {asked ρ σ : ℕ} {r s : Reading} (rooms : List Room)
+    → Passed (undoOneRules N T asked rooms)
     → Chosen N T asked ρ → Chosen N T asked σ → Returned Same N T ρ r → Returned Same N T σ s → (ρ ≡ σ) × (r ≡ s)
 unfolding Passed
 one-result {N} {T} {asked} {ρ} {σ} {r} {s} rooms passed c c′ d d′ =
     let proper : Proper N T × (0 < triangles T) =
-    judged N T (passed .1 .0) (passed .1 .1 .0) (passed-front (meshRules N T) (noReading N T asked ∷ []) (passed .1 .1 .1 .1 .1)) in
+    judged N T (passed .1 .0) (passed .1 .1 .0)
+    (passed-front (meshRules N T) (noReading N T asked ∷ []) (passed .1 .1 .1 .1 .1)) in
     let same-role : ρ ≡ σ = chosen-unique c c′ in
     (same-role, returned-unique N T (proper .0) r s ρ (proper .1) d (rw same-role d′))
 
-pub undoes-one-determined : {N : ℕ} {T : List ℕ} {asked : ℕ} {out o p : Outputs} {works w v : List (List ℕ)} {a b : OneAnswer}
+pub undoes-one-determined : {N : ℕ} {T : List ℕ} {asked : ℕ} {out o p : Outputs} {works w v : List (List ℕ)}
+    {a b : OneAnswer}
     → UndoesOne N T asked out works a o w → UndoesOne N T asked out works b p v → (a ≡ b) × (o ≡ p) × (w ≡ v)
 undoes-one-determined (UndoesOne.refuses m i R e f g) (UndoesOne.refuses n j S e′ f′ g′) =
     let same : (m ≡ n) × (i ≡ j) = refused-unique _ m i n j R S in
@@ -150,9 +154,13 @@ undoes-one-determined (UndoesOne.refuses m i R e f g) (UndoesOne.accepts σ s S 
     absurd (passed-not-refused _ m i S R)
 undoes-one-determined (UndoesOne.accepts ρ r R c d e f g) (UndoesOne.refuses n j S e′ f′ g′) =
     absurd (passed-not-refused _ n j R S)
-undoes-one-determined {N} {T} {out = out} (UndoesOne.accepts ρ r R c d e f g) (UndoesOne.accepts σ s S c′ d′ e′ f′ g′) =
-    let same : (ρ ≡ σ) × (r ≡ s) = one-result _ R c c′ d d′ in
-    (e ∙ ap₂ one-accepted (same .0) (same .1) ∙ sym e′, f ∙ ap (λ q. writtenReading q out) (same .1) ∙ sym f′, g ∙ sym g′)
+undoes-one-determined {N} {T} {out = out} (UndoesOne.accepts ρ r R c d e f g)
+    (UndoesOne.accepts σ s S c′ d′ e′ f′ g′) =
+    let same : (ρ ≡ σ) × (r ≡ s) = one-result _ R c c′ d d′ in (
+      e ∙ ap₂ one-accepted (same .0) (same .1) ∙ sym e′,
+      f ∙ ap (λ q. writtenReading q out) (same .1) ∙ sym f′,
+      g ∙ sym g′,
+    )
   where
     one-accepted : ℕ → Reading → OneAnswer
     one-accepted role q = record { common = accepted (q .vertices) (triangles (q .mesh)); role = role }
@@ -162,11 +170,11 @@ pub undoes-several-determined : {N : ℕ} {T : List ℕ} {asked : ℕ} {out o p 
     → (a ≡ b) × (o ≡ p) × (w ≡ v)
 unfolding Passed
 undoes-several-determined (UndoesSeveral.refuses m i R e f g) (UndoesSeveral.refuses n j S e′ f′ g′) =
-    let same : (m ≡ n) × (i ≡ j) = refused-unique _ m i n j R S in (
-      e ∙ ap₂ (λ n p. record { common = refusal n p; levels = 0; roles = sevenPlaces [] }) (same .0) (same .1) ∙ sym e′,
-      f ∙ sym f′,
-      g ∙ sym g′,
-    )
+    let same : (m ≡ n) × (i ≡ j) = refused-unique _ m i n j R S in
+    (e ∙ ap₂ several-refused (same .0) (same .1) ∙ sym e′, f ∙ sym f′, g ∙ sym g′)
+  where
+    several-refused : ℕ → ℕ → SeveralAnswer
+    several-refused n p = record { common = refusal n p; levels = 0; roles = sevenPlaces [] }
 undoes-several-determined (UndoesSeveral.refuses m i R e f g) (UndoesSeveral.accepts l M ρs C S c e′ f′ g′) =
     absurd (passed-not-refused _ m i S R)
 undoes-several-determined (UndoesSeveral.accepts l M ρs C R c e f g) (UndoesSeveral.refuses n j S e′ f′ g′) =
@@ -178,7 +186,11 @@ undoes-several-determined {N} {T} {asked} {out} (UndoesSeveral.accepts l M ρs C
     (e ∙ ap several-accepted same ∙ sym e′, f ∙ ap (λ y. written (y .mesh) out) same ∙ sym f′, g ∙ sym g′)
   where
     several-accepted : Yield → SeveralAnswer
-    several-accepted y = record { common = accepted (y .vertices) (triangles (y .mesh)); levels = y .levels; roles = sevenPlaces (y .roles) }
+    several-accepted y = record {
+      common = accepted (y .vertices) (triangles (y .mesh));
+      levels = y .levels;
+      roles = sevenPlaces (y .roles);
+    }
 
 pub reads-frames-determined : {bytes out o p : List ℕ} {a b : Answer}
     → ReadsFrames bytes out a o → ReadsFrames bytes out b p → (a ≡ b) × (o ≡ p)
@@ -197,13 +209,16 @@ writes-frames-determined (WritesFrames.accepts R e f) (WritesFrames.accepts S e�
 
 -- ---- the program
 
-prints-mesh-determined : {N : ℕ} {T text other : List ℕ} {asked : ℕ} → PrintsMesh N T asked text → PrintsMesh N T asked other
+prints-mesh-determined : {N : ℕ} {T text other : List ℕ} {asked : ℕ} → PrintsMesh N T asked text
+    → PrintsMesh N T asked other
     → text ≡ other
 prints-mesh-determined (PrintsMesh.refuses m i R e) (PrintsMesh.refuses n j S f) =
     let same : (m ≡ n) × (i ≡ j) = refused-unique _ m i n j R S in
     e ∙ ap₂ (λ n p. answerLine n 0 p) (same .0) (same .1) ∙ sym f
-prints-mesh-determined (PrintsMesh.refuses m i R e) (PrintsMesh.accepts σ s S c d f) = absurd (passed-not-refused _ m i S R)
-prints-mesh-determined (PrintsMesh.accepts ρ r R c d e) (PrintsMesh.refuses n j S f) = absurd (passed-not-refused _ n j R S)
+prints-mesh-determined (PrintsMesh.refuses m i R e) (PrintsMesh.accepts σ s S c d f) =
+    absurd (passed-not-refused _ m i S R)
+prints-mesh-determined (PrintsMesh.accepts ρ r R c d e) (PrintsMesh.refuses n j S f) =
+    absurd (passed-not-refused _ n j R S)
 prints-mesh-determined (PrintsMesh.accepts ρ r R c d e) (PrintsMesh.accepts σ s S c′ d′ f) =
     let same : (ρ ≡ σ) × (r ≡ s) = one-result _ R c c′ d d′ in
     e ∙ ap₂ readingText (same .0) (same .1) ∙ sym f

@@ -2,21 +2,21 @@
 -- by computing.
 use Prim.Native.Nat.{ℕ, zero, suc, _+_, _<_}
 use native.Mathlib.Omega.{arith}
-use mathlib.Core.Path.{_≡_, refl, sym, _∙_}
+use mathlib.Core.Path.{_≡_, refl}
 use mathlib.Core.List.{List, [], _∷_}
 use lib.Dec.{eqb, eqb→eq}
 use Rattle.theory.specs.Counting.{count, firstFrom}
-use Rattle.theory.specs.Mesh.{triangles, Boundary, Regular, Same, Reach, Proper}
+use Rattle.theory.specs.Mesh.{triangles, Boundary, Same, Reach, Proper}
 use Rattle.theory.specs.Splitting.{sameEdge, firstOn, isFirst, edges, edgeNo, four, fours, split}
 use Rattle.theory.specs.Reading.{Reading, IsReading, RoleOf, centre, ReadingIn, Returned}
 use Rattle.theory.specs.Choice.{LeastRole, NoRole}
-use Rattle.theory.proofs.Centres.{centre-regular}
-use Rattle.theory.proofs.Decide.{allBelow, allBelow-sound}
+use Rattle.theory.proofs.Tests.{implies, implies-sound, allBelow, allBelow-sound}
+use Rattle.theory.proofs.Mesh.{boundary-not-regular}
 use Rattle.theory.proofs.Decide.{hasEdgeTest, hasEdgeTest-sound, hasEdgeTest-complete}
 use Rattle.theory.proofs.Decide.{sameTest, sameTest-sound, reachTest, reachTest-complete}
 use Rattle.theory.proofs.Decide.{properTest, properTest-sound}
+use Rattle.theory.proofs.Centres.{centre-regular}
 use Rattle.theory.proofs.Determined.{quarter}
-use Rattle.theory.proofs.ReadingTests.{implies, implies-sound}
 use Rattle.theory.proofs.ReadingTests.{isReadingTest, isReadingTest-complete, returnedTest, returnedTest-sound}
 
 -- ---- meshes
@@ -109,10 +109,6 @@ sample-returned = returnedTest-sound 6 sample 1 sampleReading tt
 pub sample-exchanged : IsReading Same 6 sample exchanged → ⊥
 unfolding isReadingTest
 sample-exchanged R = isReadingTest-complete 6 sample exchanged R
-
--- an edge of one triangle alone is not one of two
-boundary-not-regular : {T : List ℕ} {u v : ℕ} → Boundary T u v → Regular T u v → ⊥
-boundary-not-regular b e = e .differ (b .others (e .one) (e .hasOne) ∙ sym (b .others (e .two) (e .hasTwo)))
 
 -- the sample's edge 5-0 is on the boundary: only triangle 0 has it
 pub sample-boundary : Boundary sample 5 0

@@ -1,16 +1,23 @@
 -- Numbers below a bound: decisions by trying all, which compute; lists made from a function; one-to-one maps between
 -- such ranges (an injective map of [0, m) into [0, n) forces m ≤ n; of [0, n) into itself, onto and one-to-one
--- are the same); and the laws of matches: their size, their inverse, one after another.
-use Prim.Native.Nat.{ℕ, zero, suc, _≤_, _<_, suc-le-suc}
+-- are the same); and the laws of matches: their size, the identity, their inverse, one after another.
+use Prim.Native.Nat.{ℕ, zero, suc, _-_, _≤_, _<_, suc-le-suc, min}
 use native.Mathlib.Nat.{not-suc-le-zero, le-of-suc-le-suc, le-step, lt-suc-self, zero-lt-suc}
 use native.Mathlib.Decide.{ℕ-discrete, decLt}
 use native.Mathlib.Omega.{arith}
-use mathlib.Core.Path.{_≡_, refl, sym, ap, _∙_}
+use mathlib.Core.Path.{_≡_, refl, sym, ap, _∙_, subst}
 use mathlib.Core.Logic.{_≢_, _⊎_, inl, inr, dite, ite}
 use mathlib.Core.List.{List, [], _∷_, map}
 use lib.ListN.{length, length-map}
+use lib.Seq.{ext-getD}
 use Rattle.theory.specs.Mesh.{at}
 use Rattle.theory.specs.Reading.{Match}
+
+-- ---- numbers that are equal
+
+-- of two numbers that differ one is less
+pub neither-less : {m n : ℕ} → (m < n → ⊥) → (n < m → ⊥) → m ≡ n
+neither-less f g = omega arith
 
 -- ---- decisions over the numbers below n
 
@@ -218,12 +225,29 @@ onto-injective f n below onto i j k l e = sym (back i k) ∙ ap (source f n n on
         go (y, l, e) = ap (λ (x : ℕ). source f n n onto (f x)) (sym e)
             ∙ ap (source f n n onto) (source-there f n n onto y l) ∙ e
 
+-- a map of [0, n) onto [0, n) stays below n: cut off at n - 1 it is one-to-one, so just one number goes to n - 1 or up
+onto-below : (f : ℕ → ℕ) (n : ℕ) → ((y : ℕ) → y < n → (i : ℕ) × (i < n) × (f i ≡ y)) → (i : ℕ) → i < n → f i < n
+onto-below f n onto i l = go (decLt (f i) n) (onto (n - 1) (omega arith))
+  where
+    hit : (y : ℕ) → y < n → (j : ℕ) × (j < n) × (min (f j) (n - 1) ≡ y)
+    hit y k = (onto y k .0, onto y k .1, omega (arith, onto y k .2))
+
+    go : Dec (f i < n) → (j : ℕ) × (j < n) × (f j ≡ n - 1) → f i < n
+    go (yes k) _ = k
+    go (no k) (j, h, e) =
+        let same : i ≡ j = onto-injective (λ x. min (f x) (n - 1)) n (λ x _. omega arith) hit i j l h (omega arith) in
+        absurd (omega (arith, ap f same))
+
 -- ---- matches
 
 -- matched ranges are of one size
 pub match-size : {f : List ℕ} {m n : ℕ} → Match f m n → m ≡ n
 match-size {f} {m} {n} F =
     omega (arith, injective-le (at f) m n (F .below) (F .apart), onto-le (at f) m n (F .onto))
+
+-- matches that send each number to the same one are the same list
+pub match-same : {f g : List ℕ} {m n o : ℕ} → Match f m n → Match g m o → ((i : ℕ) → i < m → at f i ≡ at g i) → f ≡ g
+match-same {f} {g} F G e = ext-getD 0 f g (F .long ∙ sym (G .long)) (λ i b. e i (omega (arith, F .long)))
 
 -- a function that is one-to-one and onto makes a match
 pub match-tabulate : (f : ℕ → ℕ) (m n : ℕ) → ((i : ℕ) → i < m → f i < n)
@@ -238,6 +262,37 @@ match-tabulate f m n below apart onto = record {
   where
     hit : {y : ℕ} → (i : ℕ) × (i < m) × (f i ≡ y) → (i : ℕ) × (i < m) × (at (tabulate f m) i ≡ y)
     hit (i, l, e) = (i, l, tabulate-at f m i l ∙ e)
+
+-- a list that is onto a range of its own size is a match
+pub onto-match : (f : List ℕ) (m n : ℕ) → length f ≡ m → m ≡ n
+    → ((y : ℕ) → y < n → (i : ℕ) × (i < m) × (at f i ≡ y)) → Match f m n
+onto-match f m n long size onto = subst (λ (k : ℕ). Match f m k) size
+    (record { long = long; below = below; apart = onto-injective (at f) m below back; onto = back })
+  where
+    back : (y : ℕ) → y < m → (i : ℕ) × (i < m) × (at f i ≡ y)
+    back y l = onto y (omega arith)
+
+    below : (i : ℕ) → i < m → at f i < m
+    below = onto-below (at f) m back
+
+-- the identity: 0, 1, .., n - 1
+pub identity : ℕ → List ℕ
+identity n = tabulate (λ i. i) n
+
+-- each number stands at its own place
+pub identity-at : (n i : ℕ) → i < n → at (identity n) i ≡ i
+unfolding identity
+identity-at = tabulate-at (λ i. i)
+
+-- there are n of them
+pub identity-length : (n : ℕ) → length (identity n) ≡ n
+unfolding identity
+identity-length = tabulate-length (λ i. i)
+
+-- every number below n is matched to itself
+pub identity-match : (n : ℕ) → Match (identity n) n n
+unfolding identity
+identity-match n = match-tabulate (λ i. i) n n (λ i l. l) (λ i j l m e. e) (λ y l. (y, l, refl))
 
 -- the match the other way round
 unfoldable pub inverse : {f : List ℕ} {m n : ℕ} → Match f m n → List ℕ

@@ -8,29 +8,17 @@ use mathlib.Core.Path.{_≡_, refl, sym, ap, _∙_}
 use mathlib.Core.Logic.{_≢_, _⊎_, inl, inr, ⊎-elim}
 use mathlib.Core.List.{List}
 use lib.ListN.{length}
-use Rattle.theory.specs.Mesh.{at, triangles, On, Same, OtherwiseProper}
+use Rattle.theory.specs.Mesh.{at, triangles, On, Same, Share, OtherwiseProper}
 use Rattle.theory.specs.Splitting.{next, edges, edgeNo, split}
+use Rattle.theory.proofs.Finite.{neither-less}
+use Rattle.theory.proofs.Corners.{next-twice, touched}
 use Rattle.theory.proofs.Splitting.{SameEdge, sameEdge-sym, sameEdge-ends}
 use Rattle.theory.proofs.Splitting.{edgeNo-injective, edgeNo-above, edgeNo-below, split-length, split-triangles}
 use Rattle.theory.proofs.Splitting.{split-centre, split-corner, split-leaving, split-entering}
+use Rattle.theory.proofs.Splitting.{on-centre, on-leaving, on-entering}
 use Rattle.theory.proofs.Splitting.{OnSplit, edge, coarse, on-split, split-on}
 
--- ---- corners of one triangle
-
--- the corner after the next one is not the first again
-next-next : (g h : ℕ) → g ≡ next h → next g ≡ h → ⊥
-next-next g h p q = omega arith
-
--- two different half-edges of a triangle touch every corner of it
-touched : (g h c : ℕ) → g / 3 ≡ h / 3 → c / 3 ≡ g / 3 → g ≢ h
-    → ((c ≡ g) ⊎ (c ≡ next g)) ⊎ ((c ≡ h) ⊎ (c ≡ next h))
-touched g h c p q d = go (ℕ-discrete c g) (ℕ-discrete c (next g)) (ℕ-discrete c h)
-  where
-    go : Dec (c ≡ g) → Dec (c ≡ next g) → Dec (c ≡ h) → ((c ≡ g) ⊎ (c ≡ next g)) ⊎ ((c ≡ h) ⊎ (c ≡ next h))
-    go (yes e) _ _ = inl (inl e)
-    go (no n) (yes e) _ = inl (inr e)
-    go (no n) (no m) (yes e) = inr (inl e)
-    go (no n) (no m) (no o) = inr (inr (omega arith))
+-- ---- three indices
 
 -- of three indices two leave one
 third-index : (a b x y : ℕ) → a < 3 → b < 3 → x < 3 → y < 3 → a ≢ b → a ≢ x → b ≢ x → a ≢ y → b ≢ y → x ≡ y
@@ -64,20 +52,20 @@ record Pair (C : List ℕ) (g h : ℕ) : Type 0 where
   differ : g ≢ h
 
 -- vertex v is on triangle t of the splitting as the edge vertex of a half-edge
-record EdgeOn (M : ℕ) (C : List ℕ) (t v : ℕ) : Type 0 where
-  half : ℕ
-  inside : half < length C
-  within : half / 3 ≡ t / 4
-  present : t % 4 ≢ 0 → half % 3 ≢ t % 4 % 3
-  number : edgeNo M C half ≡ v
+pub record EdgeOn (M : ℕ) (C : List ℕ) (t v : ℕ) : Type 0 where
+  pub half : ℕ
+  pub inside : half < length C
+  pub within : half / 3 ≡ t / 4
+  pub present : t % 4 ≢ 0 → half % 3 ≢ t % 4 % 3
+  pub number : edgeNo M C half ≡ v
 
 -- vertex v is on triangle t of the splitting as a coarse vertex
-record CoarseOn (C : List ℕ) (t v : ℕ) : Type 0 where
-  corner : ℕ
-  inside : corner < length C
-  within : corner / 3 ≡ t / 4
-  place : suc (corner % 3) ≡ t % 4
-  holds : at C corner ≡ v
+pub record CoarseOn (C : List ℕ) (t v : ℕ) : Type 0 where
+  pub corner : ℕ
+  pub inside : corner < length C
+  pub within : corner / 3 ≡ t / 4
+  pub place : suc (corner % 3) ≡ t % 4
+  pub holds : at C corner ≡ v
 
 module _ (M : ℕ) (C : List ℕ) (P : OtherwiseProper M C) where
   -- ---- edges of a proper mesh
@@ -91,11 +79,11 @@ module _ (M : ℕ) (C : List ℕ) (P : OtherwiseProper M C) where
       go (inl (p, q)) = P .different g h lg lh t p
       go (inr (p, q)) =
           absurd
-          (next-next g h (P .different g (next h) lg (omega arith) (omega arith) p)
+          (next-twice g h (P .different g (next h) lg (omega arith) (omega arith) p)
           (P .different (next g) h (omega arith) lh (omega arith) q))
 
   -- so its half-edges have three different numbers
-  edgeNo-within : (g h : ℕ) → g < length C → h < length C → g / 3 ≡ h / 3 → edgeNo M C g ≡ edgeNo M C h → g ≡ h
+  pub edgeNo-within : (g h : ℕ) → g < length C → h < length C → g / 3 ≡ h / 3 → edgeNo M C g ≡ edgeNo M C h → g ≡ h
   edgeNo-within g h lg lh t e = sameEdge-within g h lg lh t (edgeNo-injective M C g h e)
 
   -- the ends of an edge are vertices of each triangle that has it
@@ -139,7 +127,7 @@ module _ (M : ℕ) (C : List ℕ) (P : OtherwiseProper M C) where
   -- ---- vertices between
 
   -- a vertex between is on a triangle as an edge vertex
-  edge-on : (t v : ℕ) → M ≤ v → On (split M C) t v → EdgeOn M C t v
+  pub edge-on : (t v : ℕ) → M ≤ v → On (split M C) t v → EdgeOn M C t v
   edge-on t v b o = go (on-split M C (P .whole) t v o)
     where
       go : OnSplit M C t v → EdgeOn M C t v
@@ -257,7 +245,7 @@ module _ (M : ℕ) (C : List ℕ) (P : OtherwiseProper M C) where
       inside = omega arith
 
   -- a coarse vertex is on a triangle as such
-  coarse-on : (t v : ℕ) → v < M → On (split M C) t v → CoarseOn C t v
+  pub coarse-on : (t v : ℕ) → v < M → On (split M C) t v → CoarseOn C t v
   coarse-on t v b o = go (on-split M C (P .whole) t v o)
     where
       go : OnSplit M C t v → CoarseOn C t v
@@ -283,8 +271,26 @@ module _ (M : ℕ) (C : List ℕ) (P : OtherwiseProper M C) where
           omega arith
 
   -- a triangle has the vertices on the half-edges of its four, but for the edge that it misses
-  half-on : (t h : ℕ) → h < length C → h / 3 ≡ t / 4 → h % 3 ≢ t % 4 % 3 → On (split M C) t (edgeNo M C h)
+  pub half-on : (t h : ℕ) → h < length C → h / 3 ≡ t / 4 → h % 3 ≢ t % 4 % 3 → On (split M C) t (edgeNo M C h)
   half-on t h l w n = split-on M C (P .whole) t (edgeNo M C h) (edge h l w (inr n) refl)
+
+  -- a centre shares an edge with the triangle at each corner
+  pub centre-shares : (j i : ℕ) → j < triangles C → i < 3 → Share (split M C) (4 * j) (4 * j + suc i)
+  centre-shares j i l b = record {
+    u = edgeNo M C (3 * j + i);
+    v = edgeNo M C (3 * j + (i + 2) % 3);
+    one = record { differ = apart; oneEnd = on-centre M C j i l b; otherEnd = on-centre M C j ((i + 2) % 3) l c };
+    other = record { differ = apart; oneEnd = on-leaving M C j i l b; otherEnd = on-entering M C j i l b };
+  }
+    where
+      c : (i + 2) % 3 < 3
+      c = omega arith
+
+      apart : edgeNo M C (3 * j + i) ≢ edgeNo M C (3 * j + (i + 2) % 3)
+      apart e = omega (
+        arith,
+        edgeNo-within (3 * j + i) (3 * j + (i + 2) % 3) (omega arith) (omega arith) (omega arith) e,
+      )
 
   -- two vertices of a centre are together on a corner triangle too: the one that misses the third edge
   pub centre-beside : (s u v : ℕ) → s % 4 ≡ 0 → u ≢ v → On (split M C) s u → On (split M C) s v
@@ -387,12 +393,8 @@ module _ (M : ℕ) (C : List ℕ) (P : OtherwiseProper M C) where
   -- "each triangle has three different corners"
   pub split-different : (c d : ℕ) → c < length (split M C) → d < length (split M C) → c / 3 ≡ d / 3
       → at (split M C) c ≡ at (split M C) d → c ≡ d
-  split-different c d lc ld t e = go (decLt c d) (decLt d c)
-    where
-      go : Dec (c < d) → Dec (d < c) → c ≡ d
-      go (yes l) _ = absurd (different-before c d l ld t e)
-      go (no n) (yes l) = absurd (different-before d c l lc (sym t) (sym e))
-      go (no n) (no m) = omega arith
+  split-different c d lc ld t e =
+      neither-less (λ l. different-before c d l ld t e) (λ l. different-before d c l lc (sym t) (sym e))
 
   -- every triangle of the splitting has two vertices between
   two-between-on : (t : ℕ) → t < 4 * triangles C

@@ -1,5 +1,5 @@
--- Numberings: lists of chosen numbers, two numberings of the same things and the match between them, the numbering by
--- counting upward, and that there is only one upward.
+-- Numberings: lists of chosen numbers, one-to-one relations and the matches they hold, two numberings of the same
+-- things and the match between them, numbering upward, and the numbering by counting.
 use Prim.Native.Nat.{ℕ, zero, suc, _≤_, _<_}
 use native.Mathlib.Decide.{ℕ-discrete, decLt}
 use native.Mathlib.Omega.{arith}
@@ -11,7 +11,7 @@ use lib.ListN.{length}
 use Rattle.theory.specs.Counting.{count}
 use Rattle.theory.specs.Mesh.{at}
 use Rattle.theory.specs.Reading.{Match}
-use Rattle.theory.proofs.Finite.{tabulate, tabulate-length, tabulate-at, match-size}
+use Rattle.theory.proofs.Finite.{neither-less, tabulate, tabulate-length, tabulate-at, match-size}
 use Rattle.theory.proofs.Counting.{count-grows, count-injective, count-hit}
 
 -- ---- lists of chosen numbers
@@ -36,6 +36,37 @@ listed {Q} n some = (
     chosen : ℕ → ℕ
     chosen y = pick y (decLt y n)
 
+-- R sends the numbers below m one to one onto the numbers below n
+pub record OneToOne (R : ℕ → ℕ → Type 0) (m n : ℕ) : Type 0 where
+  pub total : (i : ℕ) → i < m → (y : ℕ) × (y < n) × R i y
+  pub one : (i x y : ℕ) → R i x → R i y → x ≡ y
+  pub apart : (i j y : ℕ) → i < m → j < m → R i y → R j y → i ≡ j
+  pub onto : (y : ℕ) → y < n → (i : ℕ) × (i < m) × R i y
+
+-- a match that keeps to R
+pub record Chosen (R : ℕ → ℕ → Type 0) (m n : ℕ) : Type 0 where
+  pub list : List ℕ
+  pub match : Match list m n
+  pub related : (i : ℕ) → i < m → R i (at list i)
+
+-- a relation that is one to one holds a match
+pub choose : (R : ℕ → ℕ → Type 0) (m n : ℕ) → OneToOne R m n → Chosen R m n
+choose R m n O = made (listed {Q = λ i y. (y < n) × R i y} m
+    (λ i l. (O .total i l .0, (O .total i l .1, O .total i l .2))))
+  where
+    made : (f : List ℕ) × (length f ≡ m) × ((i : ℕ) → i < m → (at f i < n) × R i (at f i)) → Chosen R m n
+    made (f, long, each) = record {
+      list = f;
+      match = record { long = long; below = λ i l. each i l .0; apart = apart; onto = λ y l. hit y (O .onto y l) };
+      related = λ i l. each i l .1;
+    }
+      where
+        apart : (i j : ℕ) → i < m → j < m → at f i ≡ at f j → i ≡ j
+        apart i j a b e = O .apart i j (at f j) a b (rw e at (each i a .1)) (each j b .1)
+
+        hit : (y : ℕ) → (i : ℕ) × (i < m) × R i y → (i : ℕ) × (i < m) × (at f i ≡ y)
+        hit y (i, b, r) = (i, b, O .one i (at f i) y (each i b .1) r)
+
 -- ---- two numberings of the same things
 
 -- φ numbers the numbers with Q, one to one, by the numbers below m
@@ -44,17 +75,17 @@ pub record Numbers (Q : ℕ → Type 0) (φ : ℕ → ℕ) (m : ℕ) : Type 0 wh
   pub apart : (i j : ℕ) → Q i → Q j → φ i ≡ φ j → i ≡ j
   pub onto : (y : ℕ) → y < m → (i : ℕ) × Q i × (φ i ≡ y)
 
--- what numbers the ones numbers the others, where these are the same
-pub numbers-as : {Q Q′ : ℕ → Type 0} {φ : ℕ → ℕ} {m : ℕ} → ((i : ℕ) → Q i → Q′ i) → ((i : ℕ) → Q′ i → Q i)
-    → Numbers Q φ m → Numbers Q′ φ m
-numbers-as {Q} {Q′} {φ} there back A = record {
-  below = λ i q. A .below i (back i q);
-  apart = λ i j p q. A .apart i j (back i p) (back j q);
+-- what numbers one kind of things numbers every kind that is the same
+pub numbers-of : {Q K : ℕ → Type 0} {φ : ℕ → ℕ} {m : ℕ} → ((i : ℕ) → K i → Q i) → ((i : ℕ) → Q i → K i)
+    → Numbers Q φ m → Numbers K φ m
+numbers-of {Q} {K} {φ} there back A = record {
+  below = λ i q. A .below i (there i q);
+  apart = λ i j p q. A .apart i j (there i p) (there j q);
   onto = λ y l. hit y (A .onto y l);
 }
   where
-    hit : (y : ℕ) → (i : ℕ) × Q i × (φ i ≡ y) → (i : ℕ) × Q′ i × (φ i ≡ y)
-    hit y (i, q, e) = (i, there i q, e)
+    hit : (y : ℕ) → (i : ℕ) × Q i × (φ i ≡ y) → (i : ℕ) × K i × (φ i ≡ y)
+    hit y (i, q, e) = (i, back i q, e)
 
 -- a match that takes the numbers of φ to those of ψ
 pub record Renumbers (Q : ℕ → Type 0) (φ : ℕ → ℕ) (m : ℕ) (ψ : ℕ → ℕ) (n : ℕ) : Type 0 where
@@ -63,50 +94,79 @@ pub record Renumbers (Q : ℕ → Type 0) (φ : ℕ → ℕ) (m : ℕ) (ψ : ℕ
   pub sends : (i : ℕ) → Q i → at list (φ i) ≡ ψ i
 
 module _ {Q : ℕ → Type 0} {φ ψ : ℕ → ℕ} {m n : ℕ} (A : Numbers Q φ m) (B : Numbers Q ψ n) where
-  -- a list that takes φ's number of some i to ψ's, for each number of φ's, takes it so for each i
-  sent : (f : List ℕ) → ((y : ℕ) → y < m → (i : ℕ) × Q i × (φ i ≡ y) × (ψ i ≡ at f y))
-      → (i : ℕ) → Q i → at f (φ i) ≡ ψ i
-  sent f each i q =
-      let s = each (φ i) (A .below i q) in
-      sym (s .3) ∙ ap ψ (A .apart (s .0) i (s .1) q (s .2))
+  -- y and x are the two numbers of one thing
+  abbrev Both : ℕ → ℕ → Type 0
+  Both y x = (i : ℕ) × Q i × (φ i ≡ y) × (ψ i ≡ x)
 
-  -- and is a match
-  sent-match : (f : List ℕ) → length f ≡ m → ((y : ℕ) → y < m → (i : ℕ) × Q i × (φ i ≡ y) × (ψ i ≡ at f y))
-      → Match f m n
-  sent-match f long each = record { long = long; below = below; apart = apart; onto = onto }
+  -- which is a one-to-one relation
+  both-oneToOne : OneToOne Both m n
+  both-oneToOne = record {
+    total = λ y l. total y (A .onto y l);
+    one = λ y x z s t. sym (s .3) ∙ ap ψ (A .apart (s .0) (t .0) (s .1) (t .1) (s .2 ∙ sym (t .2))) ∙ t .3;
+    apart = λ y z x k l s t. sym (s .2) ∙ ap φ (B .apart (s .0) (t .0) (s .1) (t .1) (s .3 ∙ sym (t .3))) ∙ t .2;
+    onto = λ x l. onto x (B .onto x l);
+  }
     where
-      below : (y : ℕ) → y < m → at f y < n
-      below y l =
-          let s = each y l in
-          subst (λ x. x < n) (s .3) (B .below (s .0) (s .1))
+      total : (y : ℕ) → (i : ℕ) × Q i × (φ i ≡ y) → (x : ℕ) × (x < n) × Both y x
+      total y (i, q, e) = (ψ i, B .below i q, (i, q, e, refl))
 
-      apart : (y z : ℕ) → y < m → z < m → at f y ≡ at f z → y ≡ z
-      apart y z k l e =
-          let s = each y k in
-          let t = each z l in
-          sym (s .2) ∙ ap φ (B .apart (s .0) (t .0) (s .1) (t .1) (s .3 ∙ e ∙ sym (t .3))) ∙ t .2
+      onto : (x : ℕ) → (i : ℕ) × Q i × (ψ i ≡ x) → (y : ℕ) × (y < m) × Both y x
+      onto x (i, q, e) = (φ i, A .below i q, (i, q, refl, e))
 
-      onto : (z : ℕ) → z < n → (y : ℕ) × (y < m) × (at f y ≡ z)
-      onto z l =
-          let s = B .onto z l in
-          (φ (s .0), A .below (s .0) (s .1), sent f each (s .0) (s .1) ∙ s .2)
-
-  -- two numberings of the same things are matched
+  -- so two numberings of the same things are matched
   pub numbers-matched : Renumbers Q φ m ψ n
-  numbers-matched = made (listed m some)
+  numbers-matched = made (choose Both m n both-oneToOne)
     where
-      some : (y : ℕ) → y < m → (x : ℕ) × ((i : ℕ) × Q i × (φ i ≡ y) × (ψ i ≡ x))
-      some y l =
-          let s = A .onto y l in
-          (ψ (s .0), (s .0, s .1, s .2, refl))
+      made : Chosen Both m n → Renumbers Q φ m ψ n
+      made C = record {
+        list = C .list;
+        match = C .match;
+        sends = λ i q. both-oneToOne .one (φ i) (at (C .list) (φ i)) (ψ i)
+            (C .related (φ i) (A .below i q)) (i, q, refl, refl);
+      }
 
-      made : (f : List ℕ) × (length f ≡ m) × ((y : ℕ) → y < m → (i : ℕ) × Q i × (φ i ≡ y) × (ψ i ≡ at f y))
-          → Renumbers Q φ m ψ n
-      made (f, long, each) = record { list = f; match = sent-match f long each; sends = sent f each }
-
-  -- so they have as many numbers
+  -- and have as many numbers
   pub numbers-size : m ≡ n
   numbers-size = match-size (numbers-matched .match)
+
+-- ---- numbering upward
+
+-- f grows along the i with Q i
+pub record Upward (Q : ℕ → Type 0) (f : ℕ → ℕ) : Type 0 where
+  pub grows : (i j : ℕ) → Q i → Q j → i < j → f i < f j
+
+-- so it sends different numbers to different ones
+pub upward-apart : {Q : ℕ → Type 0} {f : ℕ → ℕ} → Upward Q f → (i j : ℕ) → Q i → Q j → f i ≡ f j → i ≡ j
+upward-apart U i j p q e = neither-less
+    (λ l. absurd (omega (arith, U .grows i j p q l))) (λ l. absurd (omega (arith, U .grows j i q p l)))
+
+-- and the lesser image is that of the lesser number
+pub upward-order : {Q : ℕ → Type 0} {f : ℕ → ℕ} → Upward Q f → (i j : ℕ) → Q i → Q j → f i < f j → i < j
+upward-order {f = f} U i j p q b = go (decLt i j) (ℕ-discrete i j)
+  where
+    go : Dec (i < j) → Dec (i ≡ j) → i < j
+    go (yes h) e = h
+    go (no h) (yes e) = absurd (omega (arith, ap f e))
+    go (no h) (no d) = absurd (omega (arith, U .grows j i q p (omega arith)))
+
+-- an upward numbering gives each i the least number that an upward map can
+upward-least : {Q : ℕ → Type 0} {f g : ℕ → ℕ} {m : ℕ} → Numbers Q f m → Upward Q f → Upward Q g
+    → (y i : ℕ) → Q i → f i ≡ y → y ≤ g i
+upward-least F U W zero i q e = omega arith
+upward-least {Q} {f} {g} F U W (suc y) i q e = go (F .onto y (omega (arith, F .below i q))) (upward-least F U W y)
+  where
+    go : (j : ℕ) × Q j × (f j ≡ y) → ((j : ℕ) → Q j → f j ≡ y → y ≤ g j) → suc y ≤ g i
+    go (j, p, d) before =
+        let b : j < i = upward-order U j i p q (omega arith) in
+        omega (arith, before j p d, W .grows j i p q b)
+
+-- so two upward numberings are the same
+pub upward-agree : {Q : ℕ → Type 0} {f g : ℕ → ℕ} {m n : ℕ} → Numbers Q f m → Numbers Q g n → Upward Q f → Upward Q g
+    → (i : ℕ) → Q i → f i ≡ g i
+upward-agree {f = f} {g = g} F G U W i q =
+    omega (arith, upward-least F U W (f i) i q refl, upward-least G W U (g i) i q refl)
+
+-- ---- numbering by counting
 
 -- counting from below numbers what passes the test
 pub count-numbers : (Q : ℕ → Type 0) (test : ℕ → Bool) (n : ℕ) → ((i : ℕ) → Q i → (i < n) × T (test i))
@@ -119,45 +179,3 @@ count-numbers Q test n pass has = record {
   where
     hit : (y : ℕ) → (i : ℕ) × (i < n) × T (test i) × (count test i ≡ y) → (i : ℕ) × Q i × (count test i ≡ y)
     hit y (i, l, t, e) = (i, has i l t, e)
-
--- ---- upward numberings
-
--- φ grows along the numbers with Q
-pub record Upward (Q : ℕ → Type 0) (φ : ℕ → ℕ) : Type 0 where
-  pub grows : (i j : ℕ) → Q i → Q j → i < j → φ i < φ j
-
--- where φ grows, the lesser image is that of the lesser number
-upward-order : {Q : ℕ → Type 0} {φ : ℕ → ℕ} → Upward Q φ → (i j : ℕ) → Q i → Q j → φ i < φ j → i < j
-upward-order {Q} {φ} U i j p q l = go (decLt i j) (ℕ-discrete i j)
-  where
-    go : Dec (i < j) → Dec (i ≡ j) → i < j
-    go (yes h) e = h
-    go (no h) (yes e) = absurd (omega (arith, ap φ e))
-    go (no h) (no d) = absurd (omega (arith, U .grows j i q p (omega arith)))
-
--- and the images of different numbers are different
-pub upward-apart : {Q : ℕ → Type 0} {φ : ℕ → ℕ} → Upward Q φ → (i j : ℕ) → Q i → Q j → φ i ≡ φ j → i ≡ j
-upward-apart {Q} {φ} U i j p q e = go (decLt i j) (decLt j i)
-  where
-    go : Dec (i < j) → Dec (j < i) → i ≡ j
-    go (yes l) _ = absurd (omega (arith, U .grows i j p q l))
-    go (no k) (yes l) = absurd (omega (arith, U .grows j i q p l))
-    go (no k) (no l) = omega arith
-
--- an upward numbering gives each number the least image that a growing map can
-upward-least : {Q : ℕ → Type 0} {φ ψ : ℕ → ℕ} {m : ℕ} → Numbers Q φ m → Upward Q φ → Upward Q ψ
-    → (y i : ℕ) → Q i → φ i ≡ y → y ≤ ψ i
-upward-least A U U′ zero i q e = omega arith
-upward-least {Q} {φ} {ψ} A U U′ (suc y) i q e =
-    go (A .onto y (omega (arith, A .below i q))) (upward-least A U U′ y)
-  where
-    go : (j : ℕ) × Q j × (φ j ≡ y) → ((j : ℕ) → Q j → φ j ≡ y → y ≤ ψ j) → suc y ≤ ψ i
-    go (j, p, d) before =
-        let l : j < i = upward-order U j i p q (omega arith) in
-        omega (arith, before j p d, U′ .grows j i p q l)
-
--- so two upward numberings of the same things are the same
-pub upward-agree : {Q : ℕ → Type 0} {φ ψ : ℕ → ℕ} {m n : ℕ} → Numbers Q φ m → Numbers Q ψ n → Upward Q φ → Upward Q ψ
-    → (i : ℕ) → Q i → φ i ≡ ψ i
-upward-agree {φ = φ} {ψ = ψ} A B U U′ i q =
-    omega (arith, upward-least A U U′ (φ i) i q refl, upward-least B U′ U (ψ i) i q refl)

@@ -4,8 +4,8 @@
 use Prim.Native.Nat.{ℕ, zero, suc, _+_, _*_, _/_, _%_, _<_}
 use native.Mathlib.Omega.{arith}
 use mathlib.Core.Path.{_≡_, refl}
-use mathlib.Core.Bool.{Bool, true, false, not, _&&_, _||_}
-use mathlib.Core.List.{List, List·Memᴰ as Member}
+use mathlib.Core.Bool.{Bool, not, _&&_}
+use mathlib.Core.List.{List}
 use lib.Dec.{T as So, T-not, not-T, eqb, ltb, eqb→eq, ltb→lt, lt→ltb}
 use lib.ListN.{length}
 use Rattle.theory.specs.Mesh.{at, triangles, On, Same}
@@ -13,85 +13,36 @@ use Rattle.theory.specs.Counting.{count, firstFrom}
 use Rattle.theory.specs.Splitting.{sameEdge, firstOn, isFirst, edges, edgeNo, four, fours, split}
 use Rattle.theory.specs.Reading.{Match, Matched, renamed, Reading, IsReading, Kept, Centre, Across}
 use Rattle.theory.specs.Reading.{RoleOf, centre, corner, Returned}
-use Rattle.theory.proofs.Decide.{decided, and-sound, and-complete, and₅-sound, and₅-complete}
-use Rattle.theory.proofs.Decide.{eq→eqb, someOf, someOf-sound, someOf-complete}
-use Rattle.theory.proofs.Decide.{numbers, numbers-below, below-numbers, on-le}
-use Rattle.theory.proofs.Decide.{allBelow, allBelow-sound, allBelow-complete}
-use Rattle.theory.proofs.Decide.{allApart, allApart-sound, allApart-complete}
-use Rattle.theory.proofs.Decide.{belowTest, belowTest-sound, belowTest-complete}
+use Rattle.theory.proofs.Tests.{
+  decided,
+  and-sound,
+  and-complete,
+  and₃-sound,
+  and₃-complete,
+  and₅-sound,
+  and₅-complete,
+  implies,
+  implies-sound,
+  implies-complete,
+  eq→eqb,
+  allBelow,
+  allBelow-sound,
+  allBelow-complete,
+  someBelow,
+  someBelow-sound,
+  someBelow-complete,
+  allApart,
+  allApart-sound,
+  allApart-complete,
+  upwardTest,
+  upwardTest-sound,
+  upwardTest-complete,
+}
+use Rattle.theory.proofs.Decide.{on-le, belowTest, belowTest-sound, belowTest-complete}
 use Rattle.theory.proofs.Decide.{usedTest, usedTest-sound, usedTest-complete}
 use Rattle.theory.proofs.Decide.{hasEdgeTest, hasEdgeTest-sound, hasEdgeTest-complete}
 use Rattle.theory.proofs.Decide.{sameTest, sameTest-sound, sameTest-complete}
 use Rattle.theory.proofs.Decide.{properTest, properTest-sound, properTest-complete}
-
--- ---- Bool tests
-
--- all three pass
-and₃-sound : (a b c : Bool) → So (a && (b && c)) → So a × So b × So c
-and₃-sound true true c t = (tt, tt, t)
-and₃-sound true false c t = absurd t
-and₃-sound false b c t = absurd t
-
--- three that pass, pass together
-and₃-complete : (a b c : Bool) → So a → So b → So c → So (a && (b && c))
-and₃-complete a b c p q r = and-complete a (b && c) p (and-complete b c q r)
-
--- whether the second passes if the first does
-abbrev pub implies : Bool → Bool → Bool
-implies a b = not a || b
-
--- then where the first passes, so does the second
-pub implies-sound : (a b : Bool) → So (implies a b) → So a → So b
-implies-sound true b t s = t
-implies-sound false b t s = absurd s
-
--- it is enough that the second passes where the first does
-implies-complete : (a b : Bool) → (So a → So b) → So (implies a b)
-implies-complete true b h = h tt
-implies-complete false b h = tt
-
--- whether some number below n passes
-unfoldable pub someBelow : (ℕ → Bool) → ℕ → Bool
-unfolding someOf numbers
-someBelow test n = someOf test (numbers n)
-
--- then one of them passes
-someBelow-sound : (test : ℕ → Bool) (n : ℕ) → So (someBelow test n) → (i : ℕ) × (i < n) × So (test i)
-unfolding someBelow
-someBelow-sound test n t = go (someOf-sound test (numbers n) t)
-  where
-    go : (i : ℕ) × Member i (numbers n) × So (test i) → (i : ℕ) × (i < n) × So (test i)
-    go (i, m, s) = (i, numbers-below n i m, s)
-
--- it is enough that one passes
-someBelow-complete : (test : ℕ → Bool) (n i : ℕ) → i < n → So (test i) → So (someBelow test n)
-unfolding someBelow
-someBelow-complete test n i l s = someOf-complete test (numbers n) i (below-numbers n i l) s
-
--- whether the entries at marked places go upward
-unfoldable pub upwardTest : (ℕ → Bool) → List ℕ → Bool
-unfolding allBelow
-upwardTest marked f =
-    allBelow (λ j. allBelow (λ i. implies (marked i && marked j) (ltb (at f i) (at f j))) j) (length f)
-
--- then of two marked places the later has the greater entry
-upwardTest-sound : (marked : ℕ → Bool) (f : List ℕ) → So (upwardTest marked f) → (i j : ℕ) → j < length f
-    → So (marked i) → So (marked j) → i < j → at f i < at f j
-unfolding upwardTest
-upwardTest-sound marked f t i j l p q b =
-    ltb→lt (at f i) (at f j) (implies-sound (marked i && marked j) (ltb (at f i) (at f j))
-    (allBelow-sound _ j (allBelow-sound _ (length f) t j l) i b) (and-complete (marked i) (marked j) p q))
-
--- it is enough that each marked place has a greater entry than those before it
-upwardTest-complete : (marked : ℕ → Bool) (f : List ℕ)
-    → ((i j : ℕ) → So (marked i) → So (marked j) → i < j → at f i < at f j) → So (upwardTest marked f)
-unfolding upwardTest
-upwardTest-complete marked f h =
-    allBelow-complete _ (length f) (λ j l. allBelow-complete _ j (λ i b.
-    implies-complete (marked i && marked j) (ltb (at f i) (at f j)) (λ t. lt→ltb (at f i) (at f j) (go i j b t))))
-  where
-    go : (i j : ℕ) → i < j → So (marked i && marked j) → at f i < at f j
-    go i j b t = h i j (and-sound (marked i) (marked j) t .0) (and-sound (marked i) (marked j) t .1) b
 
 -- ---- Match
 

@@ -1,26 +1,17 @@
 -- None of the refusals 6 to 10 is given exactly if the mesh is proper.
-use Prim.Native.Nat.{ℕ, _*_, _/_, _%_, _≤_, _<_}
+use Prim.Native.Nat.{ℕ, _*_, _/_, _<_}
 use native.Mathlib.Omega.{arith}
 use native.Mathlib.Decide.{ℕ-discrete, decLt}
 use mathlib.Core.Path.{_≡_, refl, sym, _∙_}
-use mathlib.Core.Logic.{_≢_, _⊎_, inl, inr}
+use mathlib.Core.Logic.{_⊎_, inl, inr}
 use mathlib.Core.List.{List}
 use lib.ListN.{length}
-use Rattle.theory.specs.Mesh.{at, triangles, On, Same, Reach, OtherwiseProper, Proper}
-use Rattle.theory.specs.Refusals.{CornerNotBelow, EqualCorners, SameAsEarlier, InNoTriangle, NotConnected, Passed, meshRules}
-use Rattle.theory.proofs.Finite.{find-below}
+use Rattle.theory.specs.Mesh.{at, triangles, On, Same, Reach, Proper}
+use Rattle.theory.specs.Refusals.{CornerNotBelow, EqualCorners, SameAsEarlier, InNoTriangle, NotConnected}
+use Rattle.theory.specs.Refusals.{Passed, meshRules}
+use Rattle.theory.proofs.Finite.{neither-less, find-below}
+use Rattle.theory.proofs.Mesh.{on-corner, same-sym}
 use Rattle.theory.proofs.Decide.{reach?}
-
--- the vertex at a corner inside the list stands on the corner's triangle
-abbrev pub on-corner : (T : List ℕ) (c : ℕ) → c < length T → On T (c / 3) (at T c)
-on-corner T c l = record { corner = c; inside = l; triangle = refl; holds = refl }
-
-pub same-sym : {T S : List ℕ} {k l : ℕ} → Same T k S l → Same S l T k
-same-sym s = record { there = s .back; back = s .there }
-
--- a vertex stands on a triangle only below the last
-pub on-below : {T : List ℕ} {k v : ℕ} → length T ≡ 3 * triangles T → On T k v → k < triangles T
-on-below whole o = omega (arith, o .inside, o .triangle)
 
 module _ (N : ℕ) (T : List ℕ) where
   -- ---- passed, so proper
@@ -32,7 +23,8 @@ module _ (N : ℕ) (T : List ℕ) where
       where
         go : Dec (at T c < N) → at T c < N
         go (yes h) = h
-        go (no h) = absurd (passed .0 (c / 3) (record { v = at T c; corner = on-corner T c l; notBelow = omega arith }))
+        go (no h) =
+            absurd (passed .0 (c / 3) (record { v = at T c; corner = on-corner T c l; notBelow = omega arith }))
 
     corners-different : (c d : ℕ) → c < length T → d < length T → c / 3 ≡ d / 3 → at T c ≡ at T d → c ≡ d
     unfolding Passed
@@ -50,12 +42,9 @@ module _ (N : ℕ) (T : List ℕ) where
 
     triangles-unlike : (j k : ℕ) → j < triangles T → k < triangles T → Same T j T k → j ≡ k
     unfolding Passed
-    triangles-unlike j k l m s = go (decLt j k) (decLt k j)
-      where
-        go : Dec (j < k) → Dec (k < j) → j ≡ k
-        go (yes h) d = absurd (passed .1 .1 .0 k (record { earlier = j; before = h; inside = m; same = s }))
-        go (no h) (yes g) = absurd (passed .1 .1 .0 j (record { earlier = k; before = g; inside = l; same = same-sym s }))
-        go (no h) (no g) = omega arith
+    triangles-unlike j k l m s = neither-less
+        (λ b. passed .1 .1 .0 k (record { earlier = j; before = b; inside = m; same = s }))
+        (λ b. passed .1 .1 .0 j (record { earlier = k; before = b; inside = l; same = same-sym s }))
 
     vertices-used : (v : ℕ) → v < N → (k : ℕ) × On T k v
     unfolding Passed
@@ -64,7 +53,8 @@ module _ (N : ℕ) (T : List ℕ) where
         go : ((c : ℕ) × (c < length T) × (at T c ≡ v)) ⊎ ((c : ℕ) → c < length T → at T c ≡ v → ⊥) → (k : ℕ) × On T k v
         go (inl (c, h, e)) = (c / 3, record { corner = c; inside = h; triangle = refl; holds = e })
         go (inr none) =
-            absurd (passed .1 .1 .1 .0 v (record { inside = l; nowhere = λ k o. none (o .corner) (o .inside) (o .holds) }))
+            absurd (passed .1 .1 .1 .0 v
+            (record { inside = l; nowhere = λ k o. none (o .corner) (o .inside) (o .holds) }))
 
     triangles-connected : (k : ℕ) → k < triangles T → Reach T 0 k
     unfolding Passed

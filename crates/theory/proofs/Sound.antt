@@ -1,96 +1,24 @@
 -- Sound: what passes every test is the returned reading in the role of its start. The coarse mesh is proper because
 -- its triangles are reached rows of the covering mesh; the maps are one-to-one because each is onto a range of its own
 -- size. That no two coarse triangles are the same follows: their centres would be.
-use Prim.Native.Nat.{ℕ, zero, suc, _+_, _-_, _*_, _/_, _%_, _<_, min}
-use native.Mathlib.Decide.{ℕ-discrete, decLt}
+use Prim.Native.Nat.{ℕ, zero, suc, _+_, _*_, _/_, _%_, _<_}
+use native.Mathlib.Decide.{decLt}
 use native.Mathlib.Omega.{arith}
 use mathlib.Core.Path.{_≡_, refl, sym, ap, _∙_, subst}
-use mathlib.Core.Logic.{_≢_, _⊎_, inl, inr}
 use mathlib.Core.List.{List}
 use lib.ListN.{length}
 use Rattle.theory.specs.Mesh.{at, triangles, On, HasEdge, Same, Reach, here, step, Proper}
-use Rattle.theory.specs.Splitting.{next, edges, edgeNo, split}
+use Rattle.theory.specs.Splitting.{edges, edgeNo, split}
 use Rattle.theory.specs.Reading.{Match, Reading, IsReading, Kept, Centre, Returned}
-use Rattle.theory.proofs.Finite.{onto-injective}
-use Rattle.theory.proofs.Splitting.{SameEdge, ends-sameEdge, ends-sameEdge-crossed}
-use Rattle.theory.proofs.Splitting.{edgeNo-same, edgeNo-hit, split-triangles}
-use Rattle.theory.proofs.Decide.{same-sym, reach-trans, reach-sym}
+use Rattle.theory.proofs.Finite.{onto-match}
+use Rattle.theory.proofs.Numbering.{upward-apart}
+use Rattle.theory.proofs.Mesh.{on-place, across-edge, same-sym, reach-trans, reach-sym, on-triangle, on-vertex}
+use Rattle.theory.proofs.Splitting.{SameEdge, same-edges, edgeNo-same, edgeNo-hit, split-triangles}
 use Rattle.theory.proofs.Rows.{Opposite}
-use Rattle.theory.proofs.Tiles.{Covering, IsTile, Row, Start, InRow}
+use Rattle.theory.proofs.Tiles.{Covering, IsTile, Start, InRow, row-opposite}
 use Rattle.theory.proofs.Tiles.{row-different, row-below, reached-below, reached-tile}
 use Rattle.theory.proofs.Tiles.{row-kept, kept-row, centre-reached, centre-start}
 use Rattle.theory.proofs.Built.{Built, Found}
-
--- ---- general facts: maps of [0, n) onto itself, corners and edges of triangles
-
--- a map of [0, n) onto [0, n) stays below n: cut off at n - 1 it is one-to-one, so just one number goes to n - 1 or up
-onto-below : (f : ℕ → ℕ) (n : ℕ) → ((y : ℕ) → y < n → (i : ℕ) × (i < n) × (f i ≡ y)) → (i : ℕ) → i < n → f i < n
-onto-below f n onto i l = go (decLt (f i) n) (onto (n - 1) (omega arith))
-  where
-    hit : (y : ℕ) → y < n → (j : ℕ) × (j < n) × (min (f j) (n - 1) ≡ y)
-    hit y k = (onto y k .0, onto y k .1, omega (arith, onto y k .2))
-
-    go : Dec (f i < n) → (j : ℕ) × (j < n) × (f j ≡ n - 1) → f i < n
-    go (yes k) _ = k
-    go (no k) (j, h, e) =
-        let same : i ≡ j = onto-injective (λ x. min (f x) (n - 1)) n (λ x _. omega arith) hit i j l h (omega arith) in
-        absurd (omega (arith, ap f same))
-
--- so a list that is onto a range of its own size is a match
-onto-match : (f : List ℕ) (m n : ℕ) → length f ≡ m → m ≡ n
-    → ((y : ℕ) → y < n → (i : ℕ) × (i < m) × (at f i ≡ y)) → Match f m n
-onto-match f m n long size onto = subst (λ (k : ℕ). Match f m k) size
-    (record { long = long; below = below; apart = onto-injective (at f) m below back; onto = back })
-  where
-    back : (y : ℕ) → y < m → (i : ℕ) × (i < m) × (at f i ≡ y)
-    back y l = onto y (omega arith)
-
-    below : (i : ℕ) → i < m → at f i < m
-    below = onto-below (at f) m back
-
--- two corners of a triangle follow one another, one way round or the other
-corners-follow : (a b : ℕ) → a / 3 ≡ b / 3 → a ≢ b → (next a ≡ b) ⊎ (next b ≡ a)
-corners-follow a b t n = elim (ℕ-discrete (next a) b) [ yes e ↦ inl e | no m ↦ inr (omega arith) ]
-
--- what stands at a corner, by the corner's triangle and place
-on-place : (T : List ℕ) {k v : ℕ} (o : On T k v) → at T (3 * k + o .corner % 3) ≡ v
-on-place T {k} o =
-    let same : 3 * k + o .corner % 3 ≡ o .corner = omega (arith, o .triangle) in
-    ap (at T) same ∙ o .holds
-
--- triangles with the same vertices have the same edges
-same-edges : (T : List ℕ) → length T ≡ 3 * triangles T
-    → ((c d : ℕ) → c < length T → d < length T → c / 3 ≡ d / 3 → at T c ≡ at T d → c ≡ d)
-    → (k l h : ℕ) → Same T k T l → h < length T → h / 3 ≡ k → (g : ℕ) × (g < length T) × (g / 3 ≡ l) × SameEdge T h g
-same-edges T whole different k l h same b t = go (same .there (at T h) from) (same .there (at T (next h)) to)
-  where
-    from : On T k (at T h)
-    from = record { corner = h; inside = b; triangle = t; holds = refl }
-
-    to : On T k (at T (next h))
-    to = record { corner = next h; inside = omega arith; triangle = omega arith; holds = refl }
-
-    go : On T l (at T h) → On T l (at T (next h)) → (g : ℕ) × (g < length T) × (g / 3 ≡ l) × SameEdge T h g
-    go o p = elim (corners-follow (o .corner) (p .corner) (o .triangle ∙ sym (p .triangle)) apart) [
-      | inl e ↦ (
-        o .corner,
-        o .inside,
-        o .triangle,
-        ends-sameEdge T h (o .corner) (sym (o .holds)) (sym (p .holds) ∙ ap (at T) (sym e)),
-      )
-      | inr e ↦ (
-        p .corner,
-        p .inside,
-        p .triangle,
-        ends-sameEdge-crossed T h (p .corner) (sym (o .holds) ∙ ap (at T) (sym e)) (sym (p .holds)),
-      )
-    ]
-      where
-        apart : o .corner ≢ p .corner
-        apart e = absurd (omega (
-          arith,
-          different h (next h) b (to .inside) (omega arith) (sym (o .holds) ∙ ap (at T) e ∙ p .holds),
-        ))
 
 -- the reading that a coarse mesh and two maps make
 abbrev reading : ℕ → List ℕ → List ℕ → List ℕ → Reading
@@ -111,12 +39,8 @@ module _ (N : ℕ) (T : List ℕ) (P : Proper N T) (some : 0 < triangles T) (W :
   row-tile k q = reached-tile N T P W cover s k inside tile₀ q
 
   -- its entries are the vertices opposite the tile's corners
-  row-opposite : (k i : ℕ) → Reach W s k → i < 3 → Opposite T k i (at W (3 * k + i))
-  row-opposite k i q b = go (cover .row k (row-inside k q))
-    where
-      go : Row T W k → Opposite T k i (at W (3 * k + i))
-      go (Row.tile t opposite) = opposite i b
-      go (Row.flat n equal) = absurd (n (row-tile k q))
+  row-across : (k i : ℕ) → Reach W s k → i < 3 → Opposite T k i (at W (3 * k + i))
+  row-across k i q b = row-opposite N T P W cover k i (row-inside k q) (row-tile k q) b
 
   -- the corners of its triangle are inside the list
   row-corner : (k i : ℕ) → Reach W s k → i < 3 → 3 * k + i < length T
@@ -137,18 +61,13 @@ module _ (N : ℕ) (T : List ℕ) (P : Proper N T) (some : 0 < triangles T) (W :
 
   -- the vertices of the reached rows are vertices of the mesh
   inRow-below : (v : ℕ) → InRow W s v → v < N
-  inRow-below v r = subst (λ (u : ℕ). u < N) (on-place W (r .on))
+  inRow-below v r = subst (λ (u : ℕ). u < N) (on-place (r .on))
       (row-below N T P W cover (r .row) (r .on .corner % 3) (row-inside (r .row) (r .reached))
       (row-tile (r .row) (r .reached)) (omega arith))
 
   -- different ones have different numbers
   rank-apart : (u v : ℕ) → InRow W s u → InRow W s v → at rank u ≡ at rank v → u ≡ v
-  rank-apart u v p q e = go (decLt u v) (decLt v u)
-    where
-      go : Dec (u < v) → Dec (v < u) → u ≡ v
-      go (yes l) _ = absurd (omega (arith, built .ranked .rankUpward u v p q l))
-      go (no k) (yes l) = absurd (omega (arith, built .ranked .rankUpward v u q p l))
-      go (no k) (no l) = omega arith
+  rank-apart = upward-apart (record { grows = built .ranked .rankUpward })
 
   -- and so have the three entries of a reached row
   row-apart : (k i j : ℕ) → Reach W s k → i < 3 → j < 3
@@ -164,7 +83,7 @@ module _ (N : ℕ) (T : List ℕ) (P : Proper N T) (some : 0 < triangles T) (W :
     corner = 3 * at tile k + o .corner % 3;
     inside = omega (arith, built .ranked .tileBelow k q, built .whole);
     triangle = omega arith;
-    holds = built .rows k (o .corner % 3) q (omega arith) ∙ ap (at rank) (on-place W o);
+    holds = built .rows k (o .corner % 3) q (omega arith) ∙ ap (at rank) (on-place o);
   }
 
   -- a coarse corner belongs to a reached row
@@ -270,17 +189,13 @@ module _ (N : ℕ) (T : List ℕ) (P : Proper N T) (some : 0 < triangles T) (W :
 
   -- the triangle over the edge that ends at a tile's corner i goes to the triangle of the coarse corner i
   over-edge : (k i : ℕ) → Reach W s k → i < 3 → (l : ℕ) × (l < triangles T) × (at tm l ≡ 4 * at tile k + suc i)
-  over-edge k i q b = go (row-opposite k i q b)
+  over-edge k i q b = go (row-across k i q b)
     where
       go : Opposite T k i (at W (3 * k + i)) → (l : ℕ) × (l < triangles T) × (at tm l ≡ 4 * at tile k + suc i)
       go a = (
         a .other,
-        omega (arith, a .hasU .inside, a .hasU .triangle, P .otherwise .whole),
-        found .corners k i (a .other) q b (a .another) (record {
-          differ = row-tile k q .regular i b .hasOne .differ;
-          oneEnd = a .hasU;
-          otherEnd = a .hasV;
-        }),
+        on-triangle (P .otherwise) (a .hasU),
+        found .corners k i (a .other) q b (a .another) (across-edge (row-tile k q .regular i b .hasOne .differ) a),
       )
 
   -- each triangle of the splitting is hit: by a reached tile, or by a triangle over an edge of one
@@ -310,20 +225,18 @@ module _ (N : ℕ) (T : List ℕ) (P : Proper N T) (some : 0 < triangles T) (W :
       i : ℕ
       i = o .corner % 3
 
-      below : v < N
-      below = subst (λ (u : ℕ). u < N) (o .holds) (P .otherwise .below (o .corner) (o .inside))
-
       alike : (g : ℕ) → at tile l ≡ g / 3 → SameEdge C (3 * at tile k + i) g → at vm (at T (3 * l + g % 3)) ≡ at vm v
       alike g t e =
           between-corner l g q t ∙ sym (edgeNo-same M C (3 * at tile k + i) g e)
-          ∙ sym (found .between k i p (omega arith)) ∙ ap (at vm) (on-place T o)
+          ∙ sym (found .between k i p (omega arith)) ∙ ap (at vm) (on-place o)
 
       go : (g : ℕ) × (g < length C) × (g / 3 ≡ at tile l) × SameEdge C (3 * at tile k + i) g → On T l v
       go (g, b, t, e) = record {
         corner = 3 * l + g % 3;
         inside = row-corner l (g % 3) q (omega arith);
         triangle = omega arith;
-        holds = vertices-match .apart _ v (corner-below l (g % 3) q (omega arith)) below (alike g (sym t) e);
+        holds = vertices-match .apart _ v (corner-below l (g % 3) q (omega arith)) (on-vertex (P .otherwise) o)
+            (alike g (sym t) e);
       }
 
   -- so no two coarse triangles are the same
@@ -395,7 +308,7 @@ module _ (N : ℕ) (T : List ℕ) (P : Proper N T) (some : 0 < triangles T) (W :
       let same : 3 * (at tm k / 4) + i ≡ 3 * at tile k + i = omega (arith, found .centres k q) in (
         at W (3 * k + i),
         row-kept N T P W cover (reading M C vm tm) is-reading s (at W (3 * k + i)) start-centre r,
-        row-opposite k i q b,
+        row-across k i q b,
         ap (at C) same ∙ built .rows k i q b ∙ sym (found .kept (at W (3 * k + i)) r),
       )
 

@@ -6,37 +6,25 @@ use native.Mathlib.Nat.{add-zero}
 use native.Mathlib.Omega.{arith}
 use mathlib.Core.Path.{_≡_, refl, sym, ap, _∙_}
 use mathlib.Core.Logic.{_≢_, _⊎_, inl, inr}
-use mathlib.Core.Bool.{Bool, true, false, _&&_}
 use mathlib.Core.List.{List, _++_}
-use lib.Dec.{T as Passes, eqb, eqb→eq, eqb-refl}
+use lib.Dec.{T as Passes, eqb, eqb→eq}
 use lib.ListN.{length, length-append, List·getD-append}
 use lib.Seq.{getD-append-add}
 use Rattle.theory.specs.Counting.{count}
-use Rattle.theory.specs.Mesh.{at, triangles, On}
+use Rattle.theory.specs.Mesh.{at, triangles, On, Same}
 use Rattle.theory.specs.Splitting.{next, lesser, greater, sameEdge, firstOn, isFirst, edges, edgeNo}
 use Rattle.theory.specs.Splitting.{four, fours, split}
+use Rattle.theory.proofs.Tests.{and-sound, and-complete, eq→eqb}
+use Rattle.theory.proofs.Corners.{corner-triangle, corner-place, triangle-place, corner-inside, corners-follow}
+use Rattle.theory.proofs.Corners.{Ends, forth, back}
 use Rattle.theory.proofs.Counting.{count-le, count-grows, count-injective, count-hit}
 use Rattle.theory.proofs.Counting.{firstFrom-le, firstFrom-passes, firstFrom-before}
 
--- ---- general facts: pairs of numbers, tests, three cases
+-- ---- general facts: pairs of numbers, three cases
 
 -- two unordered pairs with the same lesser and the same greater number agree one way round or the other
 pair-ends : (a b c d : ℕ) → min a b ≡ min c d → max a b ≡ max c d → ((a ≡ c) × (b ≡ d)) ⊎ ((a ≡ d) × (b ≡ c))
 pair-ends a b c d p q = elim (ℕ-discrete a c) [ yes h ↦ inl (h, omega arith) | no h ↦ inr (omega arith, omega arith) ]
-
--- both of two tests pass where their conjunction does
-passes-both : (a b : Bool) → Passes (a && b) → Passes a × Passes b
-passes-both true b t = (tt, t)
-passes-both false b t = absurd t
-
--- and the other way round
-both-pass : (a b : Bool) → Passes a → Passes b → Passes (a && b)
-both-pass true b s t = t
-both-pass false b s t = s
-
--- the test of equality passes at equal numbers
-eq→eqb : (m n : ℕ) → m ≡ n → Passes (eqb m n)
-eq→eqb m n e = rw e (eqb-refl n)
 
 -- what holds at 0, 1 and 2 holds below 3
 by-three : (P : ℕ → Type 0) → P 0 → P 1 → P 2 → (i : ℕ) → i < 3 → P i
@@ -45,23 +33,7 @@ by-three P p q r (suc zero) b = q
 by-three P p q r (suc (suc zero)) b = r
 by-three P p q r (suc (suc (suc i))) b = absurd (omega arith)
 
--- ---- corners of triangles, and of the four that each becomes
-
--- corner 3j + i is of triangle j
-corner-triangle : (j i : ℕ) → i < 3 → (3 * j + i) / 3 ≡ j
-corner-triangle j i b = omega arith
-
--- and its place there is i
-corner-place : (j i : ℕ) → i < 3 → (3 * j + i) % 3 ≡ i
-corner-place j i b = omega arith
-
--- a corner is made up of its triangle and its place
-triangle-place : (c j : ℕ) → c / 3 ≡ j → 3 * j + c % 3 ≡ c
-triangle-place c j e = omega arith
-
--- the corners of a triangle are inside the list
-corner-inside : (n j i : ℕ) → n ≡ 3 * (n / 3) → j < n / 3 → i < 3 → 3 * j + i < n
-corner-inside n j i whole l b = omega arith
+-- ---- corners of the four triangles that each becomes
 
 -- the edge across from corner i has the place suc i % 3: the edge that leaves the corner is another
 leaving-not-across : (i : ℕ) → i < 3 → i ≢ suc i % 3
@@ -124,6 +96,83 @@ ends-sameEdge T g h p q = record { low = omega arith; high = omega arith }
 pub ends-sameEdge-crossed : (T : List ℕ) (g h : ℕ) → at T g ≡ at T (next h) → at T (next g) ≡ at T h → SameEdge T g h
 ends-sameEdge-crossed T g h p q = record { low = omega arith; high = omega arith }
 
+-- triangles with the same vertices have the same edges
+pub same-edges : (T : List ℕ) → length T ≡ 3 * triangles T
+    → ((c d : ℕ) → c < length T → d < length T → c / 3 ≡ d / 3 → at T c ≡ at T d → c ≡ d)
+    → (k l h : ℕ) → Same T k T l → h < length T → h / 3 ≡ k → (g : ℕ) × (g < length T) × (g / 3 ≡ l) × SameEdge T h g
+same-edges T whole different k l h same b t = go (same .there (at T h) from) (same .there (at T (next h)) to)
+  where
+    from : On T k (at T h)
+    from = record { corner = h; inside = b; triangle = t; holds = refl }
+
+    to : On T k (at T (next h))
+    to = record { corner = next h; inside = omega arith; triangle = omega arith; holds = refl }
+
+    go : On T l (at T h) → On T l (at T (next h)) → (g : ℕ) × (g < length T) × (g / 3 ≡ l) × SameEdge T h g
+    go o p = elim (corners-follow (o .corner) (p .corner) (o .triangle ∙ sym (p .triangle)) apart) [
+      | inl e ↦ (
+        o .corner,
+        o .inside,
+        o .triangle,
+        ends-sameEdge T h (o .corner) (sym (o .holds)) (sym (p .holds) ∙ ap (at T) (sym e)),
+      )
+      | inr e ↦ (
+        p .corner,
+        p .inside,
+        p .triangle,
+        ends-sameEdge-crossed T h (p .corner) (sym (o .holds) ∙ ap (at T) (sym e)) (sym (p .holds)),
+      )
+    ]
+      where
+        apart : o .corner ≢ p .corner
+        apart e = absurd (omega (
+          arith,
+          different h (next h) b (to .inside) (omega arith) (sym (o .holds) ∙ ap (at T) e ∙ p .holds),
+        ))
+
+-- ---- the vertices that a half-edge joins
+
+-- half-edge h joins the vertices a and b, one way round or the other
+pub data Joins (T : List ℕ) (h a b : ℕ) : Type 0 where
+  along : at T h ≡ a → at T (next h) ≡ b → Joins T h a b
+  against : at T h ≡ b → at T (next h) ≡ a → Joins T h a b
+
+-- it joins the vertices at the corners that it runs between
+pub ends-joins : {T : List ℕ} {h x y a b : ℕ} → Ends h x y → at T x ≡ a → at T y ≡ b → Joins T h a b
+ends-joins {T} (forth p q) d e = along (ap (at T) p ∙ d) (ap (at T) q ∙ e)
+ends-joins {T} (back p q) d e = against (ap (at T) p ∙ e) (ap (at T) q ∙ d)
+
+-- the two ends may be named in either order
+pub joins-swap : {T : List ℕ} {h a b : ℕ} → Joins T h a b → Joins T h b a
+joins-swap (along p q) = against p q
+joins-swap (against p q) = along p q
+
+-- half-edges that join the same vertices are on the same edge
+pub joins-sameEdge : {T : List ℕ} {h k a b : ℕ} → Joins T h a b → Joins T k a b → SameEdge T h k
+joins-sameEdge {T} {h} {k} (along p q) (along r s) = ends-sameEdge T h k (p ∙ sym r) (q ∙ sym s)
+joins-sameEdge {T} {h} {k} (along p q) (against r s) = ends-sameEdge-crossed T h k (p ∙ sym s) (q ∙ sym r)
+joins-sameEdge {T} {h} {k} (against p q) (along r s) = ends-sameEdge-crossed T h k (p ∙ sym s) (q ∙ sym r)
+joins-sameEdge {T} {h} {k} (against p q) (against r s) = ends-sameEdge T h k (p ∙ sym r) (q ∙ sym s)
+
+-- half-edges on the same edge join the same vertices
+pub sameEdge-joins : {T : List ℕ} {h k a b : ℕ} → SameEdge T h k → Joins T k a b → Joins T h a b
+sameEdge-joins {T} {h} {k} {a} {b} e j = go (sameEdge-ends e) j
+  where
+    go : ((at T h ≡ at T k) × (at T (next h) ≡ at T (next k))) ⊎ ((at T h ≡ at T (next k)) × (at T (next h) ≡ at T k))
+        → Joins T k a b → Joins T h a b
+    go (inl (p, q)) (along r s) = along (p ∙ r) (q ∙ s)
+    go (inl (p, q)) (against r s) = against (p ∙ r) (q ∙ s)
+    go (inr (p, q)) (along r s) = against (p ∙ s) (q ∙ r)
+    go (inr (p, q)) (against r s) = along (p ∙ s) (q ∙ r)
+
+-- a half-edge joins only its two ends
+pub joins-ends : {T : List ℕ} {h a b c d : ℕ} → Joins T h a b → Joins T h c d
+    → ((a ≡ c) × (b ≡ d)) ⊎ ((a ≡ d) × (b ≡ c))
+joins-ends (along p q) (along r s) = inl (sym p ∙ r, sym q ∙ s)
+joins-ends (along p q) (against r s) = inr (sym p ∙ r, sym q ∙ s)
+joins-ends (against p q) (along r s) = inr (sym q ∙ s, sym p ∙ r)
+joins-ends (against p q) (against r s) = inl (sym q ∙ s, sym p ∙ r)
+
 -- ---- the first appearance of an edge
 
 module _ (T : List ℕ) where
@@ -131,13 +180,13 @@ module _ (T : List ℕ) where
   passes-sameEdge : (g h : ℕ) → Passes (sameEdge T h g) → SameEdge T g h
   unfolding sameEdge
   passes-sameEdge g h t =
-      let p = passes-both (eqb (lesser T g) (lesser T h)) (eqb (greater T g) (greater T h)) t in
+      let p = and-sound (eqb (lesser T g) (lesser T h)) (eqb (greater T g) (greater T h)) t in
       record { low = eqb→eq (lesser T g) (lesser T h) (p .0); high = eqb→eq (greater T g) (greater T h) (p .1) }
 
   -- and those on the same edge pass it
   sameEdge-passes : (g h : ℕ) → SameEdge T g h → Passes (sameEdge T h g)
   unfolding sameEdge
-  sameEdge-passes g h e = both-pass (eqb (lesser T g) (lesser T h)) (eqb (greater T g) (greater T h))
+  sameEdge-passes g h e = and-complete (eqb (lesser T g) (lesser T h)) (eqb (greater T g) (greater T h))
       (eq→eqb (lesser T g) (lesser T h) (e .low)) (eq→eqb (greater T g) (greater T h) (e .high))
 
   -- the first appearance is not later
@@ -289,6 +338,27 @@ module _ (N : ℕ) (T : List ℕ) where
   split-entering j i l b = fours-at (triangles T) j (3 * i + 5) l (omega arith)
       ∙ by-three (λ m. at (four N T j) (3 * m + 5) ≡ edgeNo N T (3 * j + (m + 2) % 3)) refl (rw add-zero) refl i b
 
+  -- an entry of the splitting stands on its triangle
+  entry-on : (c t v : ℕ) → c / 3 ≡ t → t / 4 < triangles T → at (split N T) c ≡ v → On (split N T) t v
+  entry-on c t v e l h = record { corner = c; inside = omega (arith, split-length); triangle = e; holds = h }
+
+  -- the centre has the vertices on j's edges
+  pub on-centre : (j i : ℕ) → j < triangles T → i < 3 → On (split N T) (4 * j) (edgeNo N T (3 * j + i))
+  on-centre j i l b = entry-on (12 * j + i) _ _ (omega arith) (omega arith) (split-centre j i l b)
+
+  -- the triangle at corner i has the coarse vertex there
+  pub on-tip : (j i : ℕ) → j < triangles T → i < 3 → On (split N T) (4 * j + suc i) (at T (3 * j + i))
+  on-tip j i l b = entry-on (12 * j + (3 * i + 3)) _ _ (omega arith) (omega arith) (split-corner j i l b)
+
+  -- the vertex on the edge that leaves the corner
+  pub on-leaving : (j i : ℕ) → j < triangles T → i < 3 → On (split N T) (4 * j + suc i) (edgeNo N T (3 * j + i))
+  on-leaving j i l b = entry-on (12 * j + (3 * i + 4)) _ _ (omega arith) (omega arith) (split-leaving j i l b)
+
+  -- and the vertex on the edge that enters it
+  pub on-entering : (j i : ℕ) → j < triangles T → i < 3
+      → On (split N T) (4 * j + suc i) (edgeNo N T (3 * j + (i + 2) % 3))
+  on-entering j i l b = entry-on (12 * j + (3 * i + 5)) _ _ (omega arith) (omega arith) (split-entering j i l b)
+
   -- ---- the vertices of the splitting's triangles
 
   -- vertex v stands on triangle t of the splitting, by t / 4 (the coarse triangle) and t % 4 (0: the centre): it is
@@ -329,10 +399,6 @@ module _ (N : ℕ) (T : List ℕ) where
       go (entering i b m e) =
           edge-onSplit whole t ((i + 2) % 3) v inside (omega arith) (inr (rw (← m) (entering-not-across i b)))
           (sym (split-entering (t / 4) i inside b) ∙ entry _ e)
-
-  -- an entry of the splitting stands on its triangle
-  entry-on : (c t v : ℕ) → c / 3 ≡ t → t / 4 < triangles T → at (split N T) c ≡ v → On (split N T) t v
-  entry-on c t v e l h = record { corner = c; inside = omega (arith, split-length); triangle = e; holds = h }
 
   -- the vertex on the edge of place k stands on the centre and on the triangles of the edge's two ends
   edge-on-split : (t k v : ℕ) → t / 4 < triangles T → k < 3 → (t % 4 ≡ 0) ⊎ (k ≢ t % 4 % 3)

@@ -1,5 +1,6 @@
--- Document 01, "Calls", "Refusals by number" and the room below them: for each call the relation between what it is given
--- and what it answers and leaves in the lent buffers. `proofs/Determined` shows that each leaves at most one result.
+-- Document 01, "Calls", "Refusals by number" and the room below them: for each call the relation between what it is
+-- given and what it answers and leaves in the lent buffers. `proofs/Determined` shows that each leaves at most one
+-- result.
 use Prim.Native.Nat.{ℕ, _+_, _*_, _/_}
 use mathlib.Core.Path.{_≡_}
 use mathlib.Core.List.{List, [], _∷_, _++_, map}
@@ -47,6 +48,7 @@ pub record SeveralAnswer : Type 0 where
 abbrev pub refusal : ℕ → ℕ → Answer
 refusal number place = record { refusal = number; place = place; vertices = 0; triangles = 0 }
 
+-- An acceptance: 0, place 0, and the resulting V and F.
 abbrev pub accepted : ℕ → ℕ → Answer
 accepted N F = record { refusal = 0; place = 0; vertices = N; triangles = F }
 
@@ -64,16 +66,18 @@ zeros buffer = replicate (length buffer) 0
 abbrev pub workEntries : ℕ → List ℕ → ℕ
 workEntries N T = N + 3 * triangles T
 
+-- The work buffers as lent, each with what it needs.
 abbrev pub workRooms : ℕ → List ℕ → List (List ℕ) → List Room
 workRooms N T works = map (λ work. record { lent = length work; needed = workEntries N T }) works
 
 -- ---- split
 
--- "split 12F"; "Splitting gives 2 to 10"; 4 is given above 4,096 triangles.
+-- "Splitting gives 2 to 10"; 4 is given above 4,096 triangles.
 abbrev pub splitRules : ℕ → List ℕ → List Room → List Rule
 splitRules N T rooms =
     notThrees T ∷ noTriangle T ∷ tooLarge mostSplitTriangles N (triangles T) ∷ tooShort rooms ∷ meshRules N T
 
+-- What split is lent: "split 12F", and the work buffers.
 abbrev pub splitRooms : ℕ → List ℕ → List ℕ → List (List ℕ) → List Room
 splitRooms N T out works = record { lent = length out; needed = 12 * triangles T } ∷ workRooms N T works
 
@@ -88,19 +92,11 @@ pub data Splits (N : ℕ) (T out : List ℕ) (works : List (List ℕ)) (answer :
 
 -- ---- undo one
 
--- The rows of undo one, 1 to 11, but for the last: "asked above 4 (undo one)".
+-- The rows of undo one, 1 to 11: "asked above 4 (undo one)".
 abbrev pub undoOneRules : ℕ → List ℕ → ℕ → List Room → List Rule
 undoOneRules N T asked rooms =
-    askedTooMuch 4 asked ∷ notThrees T ∷ noTriangle T ∷ tooLarge mostTriangles N (triangles T) ∷ tooShort rooms
-    ∷ (meshRules N T ++ (noReading N T asked ∷ []))
-
--- "undo one needs 3 times (F divided by 4, rounded down) for the mesh, V and F for the two maps".
-abbrev pub undoOneRooms : ℕ → List ℕ → List ℕ → List ℕ → List ℕ → List (List ℕ) → List Room
-undoOneRooms N T mesh vertexMap triangleMap works =
-    record { lent = length mesh; needed = 3 * (triangles T / 4) }
-    ∷ record { lent = length vertexMap; needed = N }
-    ∷ record { lent = length triangleMap; needed = triangles T }
-    ∷ workRooms N T works
+    askedTooMuch 4 asked ∷ notThrees T ∷ noTriangle T ∷ tooLarge mostTriangles N (triangles T)
+    ∷ tooShort rooms ∷ (meshRules N T ++ (noReading N T asked ∷ []))
 
 -- The lent output buffers of undo one.
 pub record Outputs : Type 0 where
@@ -108,6 +104,15 @@ pub record Outputs : Type 0 where
   pub vertexMap : List ℕ
   pub triangleMap : List ℕ
 
+-- "undo one needs 3 times (F divided by 4, rounded down) for the mesh, V and F for the two maps".
+abbrev pub undoOneRooms : ℕ → List ℕ → Outputs → List (List ℕ) → List Room
+undoOneRooms N T out works =
+    record { lent = length (out .mesh); needed = 3 * (triangles T / 4) }
+    ∷ record { lent = length (out .vertexMap); needed = N }
+    ∷ record { lent = length (out .triangleMap); needed = triangles T }
+    ∷ workRooms N T works
+
+-- A reading written to the three output buffers.
 abbrev pub writtenReading : Reading → Outputs → Outputs
 writtenReading r out = record {
   mesh = written (r .mesh) (out .mesh);
@@ -119,11 +124,11 @@ writtenReading r out = record {
 pub data UndoesOne (N : ℕ) (T : List ℕ) (asked : ℕ) (out : Outputs) (works : List (List ℕ)) (answer : OneAnswer)
     (out′ : Outputs) (works′ : List (List ℕ)) : Type 0 where
   refuses : (number place : ℕ)
-      → Refused (undoOneRules N T asked (undoOneRooms N T (out .mesh) (out .vertexMap) (out .triangleMap) works)) number place
+      → Refused (undoOneRules N T asked (undoOneRooms N T out works)) number place
       → answer ≡ record { common = refusal number place; role = 0 } → out′ ≡ out → works′ ≡ map zeros works
       → UndoesOne N T asked out works answer out′ works′
   accepts : (role : ℕ) (r : Reading)
-      → Passed (undoOneRules N T asked (undoOneRooms N T (out .mesh) (out .vertexMap) (out .triangleMap) works))
+      → Passed (undoOneRules N T asked (undoOneRooms N T out works))
       → Chosen N T asked role → Returned Same N T role r
       → answer ≡ record { common = accepted (r .vertices) (triangles (r .mesh)); role = role }
       → out′ ≡ writtenReading r out → works′ ≡ map zeros works
@@ -134,8 +139,8 @@ pub data UndoesOne (N : ℕ) (T : List ℕ) (asked : ℕ) (out : Outputs) (works
 -- "above 7 (undo several)"; "Undo several gives 1 to 10".
 abbrev pub undoSeveralRules : ℕ → List ℕ → ℕ → List Room → List Rule
 undoSeveralRules N T asked rooms =
-    askedTooMuch mostLevels asked ∷ notThrees T ∷ noTriangle T ∷ tooLarge mostTriangles N (triangles T) ∷ tooShort rooms
-    ∷ meshRules N T
+    askedTooMuch mostLevels asked ∷ notThrees T ∷ noTriangle T ∷ tooLarge mostTriangles N (triangles T)
+    ∷ tooShort rooms ∷ meshRules N T
 
 -- "undo several 3F".
 abbrev pub undoSeveralRooms : ℕ → List ℕ → List ℕ → List (List ℕ) → List Room

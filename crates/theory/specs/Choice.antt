@@ -26,8 +26,8 @@ pub data NoneChosen (N : ℕ) (T : List ℕ) : ℕ → Type 0 where
   least : NoRole Same N T → NoneChosen N T 4
 
 -- Undo several, with an allowance of levels: the levels undone, the roles taken, and the mesh that is left.
--- "It stops when the asked number is reached or no reading exists"; otherwise "the least role is taken, and the smaller mesh is
--- treated the same way".
+-- "It stops when the asked number is reached or no reading exists"; otherwise "the least role is taken, and the
+-- smaller mesh is treated the same way".
 pub data Several : ℕ → ℕ → List ℕ → ℕ → List ℕ → ℕ → List ℕ → Type 0 where
   reached : {N : ℕ} {T : List ℕ} → Several zero N T zero [] N T
   stopped : {allowance N : ℕ} {T : List ℕ} → NoRole Same N T → Several (suc allowance) N T zero [] N T

@@ -1,14 +1,15 @@
--- Document 01, "Frames": meshes as lines of hexadecimal digits, written and read. All of it computes on lists of bytes.
+-- Document 01, "Frames": meshes as lines of hexadecimal digits, written and read. All of it computes on lists of
+-- bytes.
 use Prim.Native.Nat.{ℕ, zero, suc, _+_, _-_, _*_, _/_, _%_}
 use mathlib.Core.Path.{_≡_}
-use mathlib.Core.Bool.{Bool, true, false, _&&_, _||_}
+use mathlib.Core.Bool.{true, false, _&&_, _||_}
 use mathlib.Core.Option.{Option, none, some}
 use mathlib.Core.List.{List, [], _∷_, _++_}
 use lib.Dec.{leb, ltb, eqb}
 use lib.ListN.{length}
 use Rattle.theory.specs.Limits.{mostTriangles, mostVertices}
 use Rattle.theory.specs.Mesh.{at, triangles}
-use Rattle.theory.specs.Refusals.{Rule, Room, notThrees, tooLarge, tooShort, Passed, Refused}
+use Rattle.theory.specs.Refusals.{Rule, notThrees, tooLarge, tooShort, Passed, Refused}
 use Rattle.theory.specs.Calls.{Answer, refusal, accepted, written}
 
 -- ---- writing
@@ -17,9 +18,11 @@ use Rattle.theory.specs.Calls.{Answer, refusal, accepted, written}
 unfoldable pub digit : ℕ → ℕ
 digit n = elim (ltb n 10) [ true ↦ 48 + n | false ↦ 55 + n ]
 
+-- "two digits": the digits of a number below 256, the first counting most.
 unfoldable pub twoDigits : ℕ → List ℕ
 twoDigits n = digit (n / 16 % 16) ∷ digit (n % 16) ∷ []
 
+-- "four digits": the same of a number below 65,536.
 unfoldable pub fourDigits : ℕ → List ℕ
 fourDigits n = digit (n / 4096 % 16) ∷ digit (n / 256 % 16) ∷ digit (n / 16 % 16) ∷ digit (n % 16) ∷ []
 
@@ -33,7 +36,8 @@ meshLine N F = line 0x4D (fourDigits N ++ fourDigits F)
 
 -- "46 and three corners of four digits each": the line of triangle k.
 unfoldable pub triangleLine : List ℕ → ℕ → List ℕ
-triangleLine T k = line 0x46 (fourDigits (at T (3 * k)) ++ fourDigits (at T (3 * k + 1)) ++ fourDigits (at T (3 * k + 2)))
+triangleLine T k =
+    line 0x46 (fourDigits (at T (3 * k)) ++ fourDigits (at T (3 * k + 1)) ++ fourDigits (at T (3 * k + 2)))
 
 -- The lines of the first n triangles.
 unfoldable pub triangleLines : List ℕ → ℕ → List ℕ
@@ -105,7 +109,8 @@ pub data Corners : Type 0 where
   corners : List ℕ → Corners
   wrongLine : ℕ → Corners
 
--- "Then exactly F lines": n more triangle lines from the given line on and nothing after them, behind the corners so far.
+-- "Then exactly F lines": n more triangle lines from the given line on and nothing after them, behind the corners so
+-- far.
 -- "If lines run out, the place is the first missing one; bytes after the last frame are refused at line F + 1."
 unfoldable pub takeTriangles : ℕ → ℕ → List ℕ → List ℕ → Corners
 takeTriangles zero at-line so-far [] = corners so-far
@@ -121,11 +126,13 @@ pub data Frames : Type 0 where
   mesh : ℕ → List ℕ → Frames
   refused : ℕ → ℕ → Frames
 
+-- A mesh with its V where all lines are as required, and refusal 12 at the first line that is not.
 unfoldable pub meshOf : ℕ → Corners → Frames
 meshOf N (corners T) = mesh N T
 meshOf N (wrongLine place) = refused 12 place
 
--- "Reading gives 12 for the first line, then 4, 5, then 12 for later lines", with room for so many entries: "reading 3F".
+-- "Reading gives 12 for the first line, then 4, 5, then 12 for later lines", with room for so many entries: "reading
+-- 3F".
 unfoldable pub readFrames : ℕ → List ℕ → Frames
 readFrames room bytes =
     elim (takeLine 0x4D 2 bytes) [
@@ -149,6 +156,7 @@ unfoldable pub readAnswer : Frames → Answer
 readAnswer (mesh N T) = accepted N (triangles T)
 readAnswer (refused number place) = refusal number place
 
+-- The output buffer after reading: the corners in front, or untouched by a refusal.
 unfoldable pub readOutput : Frames → List ℕ → List ℕ
 readOutput (mesh N T) out = written T out
 readOutput (refused number place) out = out

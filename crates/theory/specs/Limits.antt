@@ -21,9 +21,10 @@ mostLevels = 7
 abbrev pub mostBytes : ℕ
 mostBytes = 16384
 
--- the program "has room for 1,024 triangles and 1,026 vertices"
+-- the program "has room for 1,024 triangles .."
 abbrev pub programTriangles : ℕ
 programTriangles = 1024
 
+-- ".. and 1,026 vertices"
 abbrev pub programVertices : ℕ
 programVertices = 1026

@@ -1,7 +1,7 @@
 -- Document 01, "Meshes": triangles and their vertices, edges, sameness, connectedness, proper.
--- A mesh is a vertex count N and an index list T. Every definition says that the corners it speaks of are inside the list,
--- so that the entry which stands for "outside" (0) never makes anything true.
-use Prim.Native.Nat.{ℕ, _+_, _*_, _/_, _<_}
+-- A mesh is a vertex count N and an index list T. Every definition says that the corners it speaks of are inside the
+-- list, so that the entry which stands for "outside" (0) never makes anything true.
+use Prim.Native.Nat.{ℕ, _*_, _/_, _<_}
 use mathlib.Core.Path.{_≡_}
 use mathlib.Core.Logic.{_≢_, _⊎_}
 use mathlib.Core.List.{List}

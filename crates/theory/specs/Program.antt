@@ -9,7 +9,7 @@ use Rattle.theory.specs.Reading.{Reading, Returned}
 use Rattle.theory.specs.Choice.{Chosen}
 use Rattle.theory.specs.Refusals.{Room, Passed, Refused}
 use Rattle.theory.specs.Calls.{undoOneRules}
-use Rattle.theory.specs.Frames.{Frames, mesh, refused, twoDigits, fourDigits, line, frames, readFrames}
+use Rattle.theory.specs.Frames.{mesh, refused, twoDigits, fourDigits, line, frames, readFrames}
 
 -- "writes 41, then two digits each of refusal number and role, and four of place".
 unfoldable pub answerLine : ℕ → ℕ → ℕ → List ℕ
@@ -20,13 +20,15 @@ unfoldable pub mapLines : ℕ → List ℕ → List ℕ
 mapLines kind [] = []
 mapLines kind (entry ∷ entries) = line kind (fourDigits entry) ++ mapLines kind entries
 
--- "After 00 follow the coarse mesh's frames, one 56 frame .. per input vertex .., and one 54 frame per input triangle".
+-- "After 00 follow the coarse mesh's frames, one 56 frame .. per input vertex .., and one 54 frame per input
+-- triangle".
 unfoldable pub readingText : ℕ → Reading → List ℕ
 readingText role r =
     answerLine 0 role 0 ++ frames (r .vertices) (r .mesh)
     ++ mapLines 0x56 (r .vertexMap) ++ mapLines 0x54 (r .triangleMap)
 
--- "has room for 1,024 triangles and 1,026 vertices (more triangles are refused 5 by reading, more vertices 5 by undoing)".
+-- "has room for 1,024 triangles and 1,026 vertices (more triangles are refused 5 by reading, more vertices 5 by
+-- undoing)".
 abbrev pub programRooms : ℕ → List ℕ → List Room
 programRooms N T =
     record { lent = 3 * (programTriangles / 4); needed = 3 * (triangles T / 4) }
@@ -44,7 +46,8 @@ pub data PrintsMesh (N : ℕ) (T : List ℕ) (asked : ℕ) (text : List ℕ) : T
 -- The program's text: 13 comes "before anything else", then what reading refuses.
 pub data Prints (bytes : List ℕ) (asked : ℕ) (text : List ℕ) : Type 0 where
   tooLong : mostBytes < length bytes → text ≡ answerLine 13 0 0 → Prints bytes asked text
-  notRead : (number place : ℕ) → length bytes ≤ mostBytes → readFrames (3 * programTriangles) bytes ≡ refused number place
+  notRead : (number place : ℕ) → length bytes ≤ mostBytes
+      → readFrames (3 * programTriangles) bytes ≡ refused number place
       → text ≡ answerLine number 0 place → Prints bytes asked text
   read : (N : ℕ) (T : List ℕ) → length bytes ≤ mostBytes → readFrames (3 * programTriangles) bytes ≡ mesh N T
       → PrintsMesh N T asked text → Prints bytes asked text

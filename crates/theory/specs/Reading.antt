@@ -1,5 +1,6 @@
--- Document 01, "A reading": what it is that an undo looks for. A reading is any coarse mesh that fits; how one is found is
--- nowhere said. What is asked of matched triangles is a parameter, `agree`; the calls take "the same three vertices" (`Same`).
+-- Document 01, "A reading": what it is that an undo looks for. A reading is any coarse mesh that fits; how one is
+-- found is nowhere said. What is asked of matched triangles is a parameter, `agree`; the calls take "the same three
+-- vertices" (`Same`).
 use Prim.Native.Nat.{ℕ, suc, _+_, _*_, _/_, _%_, _≤_, _<_}
 use mathlib.Core.Path.{_≡_}
 use mathlib.Core.Logic.{_≢_}
@@ -36,11 +37,13 @@ pub record Reading : Type 0 where
   pub vertexMap : List ℕ
   pub triangleMap : List ℕ
 
--- "A reading of a proper mesh is a proper coarse triangle mesh with a one-to-one match of the input's vertices onto those of
--- its splitting, and of triangles onto triangles, where matched triangles have the same three vertices under the match."
+-- "A reading of a proper mesh is a proper coarse triangle mesh with a one-to-one match of the input's vertices onto
+-- those of its splitting, and of triangles onto triangles, where matched triangles have the same three vertices under
+-- the vertex match."
 pub record IsReading (agree : Agreement) (N : ℕ) (T : List ℕ) (r : Reading) : Type 0 where
   pub proper : Proper (r .vertices) (r .mesh)
-  pub matched : Matched agree (r .vertexMap) (r .triangleMap) N T (r .vertices + edges (r .mesh)) (split (r .vertices) (r .mesh))
+  pub matched : Matched agree (r .vertexMap) (r .triangleMap) N T
+      (r .vertices + edges (r .mesh)) (split (r .vertices) (r .mesh))
 
 -- "Input vertices matched to coarse ones are kept".
 pub record Kept (r : Reading) (v : ℕ) : Type 0 where
@@ -57,7 +60,8 @@ pub record Centre (r : Reading) (k : ℕ) : Type 0 where
   pub inside : k < length (r .triangleMap)
   pub fourth : at (r .triangleMap) k % 4 ≡ 0
 
--- "The role .. is 0 if it is a centre, or 1, 2, 3 if its first, second or third corner is its kept vertex", of any triangle k.
+-- "The role .. is 0 if it is a centre, or 1, 2, 3 if its first, second or third corner is its kept vertex", of any
+-- triangle k.
 pub data RoleOf (T : List ℕ) (r : Reading) (k : ℕ) : ℕ → Type 0 where
   centre : Centre r k → RoleOf T r k 0
   corner : (i : ℕ) → i < 3 → k < triangles T → Kept r (at T (3 * k + i)) → RoleOf T r k (suc i)
@@ -86,8 +90,8 @@ pub record Returned (agree : Agreement) (N : ℕ) (T : List ℕ) (role : ℕ) (r
   pub keptUpward : (u v : ℕ) → Kept r u → Kept r v → u < v → at (r .vertexMap) u < at (r .vertexMap) v
   -- "and the centres upward likewise"
   pub centresUpward : (j k : ℕ) → Centre r j → Centre r k → j < k → at (r .triangleMap) j < at (r .triangleMap) k
-  -- "A centre (a, b, c) gives the coarse triangle (kept vertex across c-a, across a-b, across b-c)": its corner i is across
-  -- from the edge that ends at the centre's corner i
+  -- "A centre (a, b, c) gives the coarse triangle (kept vertex across c-a, across a-b, across b-c)": its corner i is
+  -- across the edge that ends at the centre's corner i
   pub rows : (k i : ℕ) → Centre r k → i < 3
       → (w : ℕ) × Kept r w × Across T k (at T (3 * k + (i + 2) % 3)) (at T (3 * k + i)) w
       × (at (r .mesh) (3 * (at (r .triangleMap) k / 4) + i) ≡ at (r .vertexMap) w)

@@ -1,11 +1,11 @@
 -- Document 01, "Refusals by number": the table, row by row, and which row a call gives.
-use Prim.Native.Nat.{ℕ, _+_, _*_, _%_, _≤_, _<_}
+use Prim.Native.Nat.{ℕ, _%_, _≤_, _<_}
 use mathlib.Core.Path.{_≡_}
 use mathlib.Core.Logic.{_≢_, _⊎_}
 use mathlib.Core.List.{List, [], _∷_}
 use lib.ListN.{length}
 use Rattle.theory.specs.Limits.{mostVertices}
-use Rattle.theory.specs.Mesh.{at, triangles, On, Same, Reach}
+use Rattle.theory.specs.Mesh.{triangles, On, Same, Reach}
 use Rattle.theory.specs.Choice.{NoneChosen}
 
 -- A row of the table: its number, and at which places it is given.
@@ -31,66 +31,77 @@ Short (room ∷ rooms) = (room .lent < room .needed) ⊎ Short rooms
 
 -- ---- the rows
 
+-- 1: "asked above 4 (undo one) or above 7 (undo several)".
 abbrev pub askedTooMuch : ℕ → ℕ → Rule
 askedTooMuch most asked = record { number = 1; given = noPlace (most < asked) }
 
+-- 2: "list length not a multiple of 3".
 abbrev pub notThrees : List ℕ → Rule
 notThrees T = record { number = 2; given = noPlace (length T % 3 ≢ 0) }
 
+-- 3: "no triangle".
 abbrev pub noTriangle : List ℕ → Rule
 noTriangle T = record { number = 3; given = noPlace (triangles T ≡ 0) }
 
+-- 4: "F above 16,384 (split: above 4,096) or V above 32,767".
 abbrev pub tooLarge : ℕ → ℕ → ℕ → Rule
 tooLarge most N F = record { number = 4; given = noPlace ((most < F) ⊎ (mostVertices < N)) }
 
+-- 5: "a lent buffer shorter than needed".
 abbrev pub tooShort : List Room → Rule
 tooShort rooms = record { number = 5; given = noPlace (Short rooms) }
 
--- "a corner not below V": triangle k has one.
+-- Triangle k has a corner that is not below N.
 pub record CornerNotBelow (N : ℕ) (T : List ℕ) (k : ℕ) : Type 0 where
   pub v : ℕ
   pub corner : On T k v
   pub notBelow : N ≤ v
 
+-- 6: "a corner not below V", at the "least triangle".
 abbrev pub cornerNotBelow : ℕ → List ℕ → Rule
 cornerNotBelow N T = record { number = 6; given = CornerNotBelow N T }
 
--- "two equal corners": triangle k has two.
+-- Triangle k has two equal corners.
 pub record EqualCorners (T : List ℕ) (k : ℕ) : Type 0 where
   pub v : ℕ
   pub one : On T k v
   pub other : On T k v
   pub two : one .corner ≢ other .corner
 
+-- 7: "two equal corners", at the "least triangle".
 abbrev pub equalCorners : List ℕ → Rule
 equalCorners T = record { number = 7; given = EqualCorners T }
 
--- "same as an earlier triangle": triangle k is.
+-- Triangle k is the same as an earlier one.
 pub record SameAsEarlier (T : List ℕ) (k : ℕ) : Type 0 where
   pub earlier : ℕ
   pub before : earlier < k
   pub inside : k < triangles T
   pub same : Same T earlier T k
 
+-- 8: "same as an earlier triangle", at the "least later one".
 abbrev pub sameAsEarlier : List ℕ → Rule
 sameAsEarlier T = record { number = 8; given = SameAsEarlier T }
 
--- "a vertex in no triangle": vertex v.
+-- Vertex v is in no triangle.
 pub record InNoTriangle (N : ℕ) (T : List ℕ) (v : ℕ) : Type 0 where
   pub inside : v < N
   pub nowhere : (k : ℕ) → On T k v → ⊥
 
+-- 9: "a vertex in no triangle", at the "least vertex".
 abbrev pub inNoTriangle : ℕ → List ℕ → Rule
 inNoTriangle N T = record { number = 9; given = InNoTriangle N T }
 
--- "not connected to triangle 0": triangle k.
+-- Triangle k is not connected to triangle 0.
 pub record NotConnected (T : List ℕ) (k : ℕ) : Type 0 where
   pub inside : k < triangles T
   pub apart : Reach T 0 k → ⊥
 
+-- 10: "not connected to triangle 0", at the "least triangle".
 abbrev pub notConnected : List ℕ → Rule
 notConnected T = record { number = 10; given = NotConnected T }
 
+-- 11: "no reading in the role asked (asked 4: in any)".
 abbrev pub noReading : ℕ → List ℕ → ℕ → Rule
 noReading N T asked = record { number = 11; given = noPlace (NoneChosen N T asked) }
 

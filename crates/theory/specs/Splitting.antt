@@ -13,10 +13,11 @@ use Rattle.theory.specs.Mesh.{at, triangles}
 abbrev pub next : ℕ → ℕ
 next c = 3 * (c / 3) + (c + 1) % 3
 
--- The two ends of a half-edge, the lesser first: "an unordered pair".
+-- The lesser end of a half-edge: its edge is "an unordered pair".
 abbrev pub lesser : List ℕ → ℕ → ℕ
 lesser T h = min (at T h) (at T (next h))
 
+-- The greater end.
 abbrev pub greater : List ℕ → ℕ → ℕ
 greater T h = max (at T h) (at T (next h))
 
