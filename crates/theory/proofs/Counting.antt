@@ -1,6 +1,7 @@
 -- Laws of `count` and `firstFrom`.
 use Prim.Native.Nat.{ℕ, zero, suc, _+_, _≤_, _<_}
-use native.Mathlib.Nat.{not-suc-le-zero}
+use native.Mathlib.Nat.{add-zero, not-suc-le-zero}
+use native.Mathlib.Numerals.{add-one}
 use native.Mathlib.Decide.{ℕ-discrete, decLt, le-ind}
 use native.Mathlib.Omega.{arith}
 use mathlib.Core.Path.{_≡_, refl}
@@ -25,6 +26,16 @@ bit-passes false t = absurd t
 passes-bit : (b : Bool) → 0 < bit b → T b
 passes-bit true l = tt
 passes-bit false l = absurd (not-suc-le-zero l)
+
+-- a number that passes counts for one
+pub count-passes : (test : ℕ → Bool) (h : ℕ) → test h ≡ true → count test (h + 1) ≡ count test h + 1
+unfolding count
+count-passes test h e = rw (add-one h, e)
+
+-- and one that does not pass counts for nothing
+pub count-fails : (test : ℕ → Bool) (h : ℕ) → test h ≡ false → count test (h + 1) ≡ count test h
+unfolding count
+count-fails test h e = rw (add-one h, e, add-zero)
 
 -- no more pass than there are
 pub count-le : (test : ℕ → Bool) (n : ℕ) → count test n ≤ n

@@ -16,65 +16,68 @@ use Rattle.theory.proofs.Decide.{reach?}
 module _ (N : ℕ) (T : List ℕ) where
   -- ---- passed, so proper
 
-  module _ (whole : length T ≡ 3 * triangles T) (passed : Passed (meshRules N T)) where
-    corners-below : (c : ℕ) → c < length T → at T c < N
-    unfolding Passed
-    corners-below c l = go (decLt (at T c) N)
-      where
-        go : Dec (at T c < N) → at T c < N
-        go (yes h) = h
-        go (no h) =
-            absurd (passed .0 (c / 3) (record { v = at T c; corner = on-corner T c l; notBelow = omega arith }))
+  -- where 6 is not given, every corner is below N
+  pub corners-below : ((k : ℕ) → CornerNotBelow N T k → ⊥) → (c : ℕ) → c < length T → at T c < N
+  corners-below none c l = go (decLt (at T c) N)
+    where
+      go : Dec (at T c < N) → at T c < N
+      go (yes h) = h
+      go (no h) = absurd (none (c / 3) (record { v = at T c; corner = on-corner T c l; notBelow = omega arith }))
 
-    corners-different : (c d : ℕ) → c < length T → d < length T → c / 3 ≡ d / 3 → at T c ≡ at T d → c ≡ d
-    unfolding Passed
-    corners-different c d l m t e = go (ℕ-discrete c d)
-      where
-        go : Dec (c ≡ d) → c ≡ d
-        go (yes p) = p
-        go (no p) =
-            absurd (passed .1 .0 (d / 3) (record {
-              v = at T d;
-              one = record { corner = c; inside = l; triangle = t; holds = e };
-              other = on-corner T d m;
-              two = p;
-            }))
+  -- where 7 is not given, the corners of a triangle are different
+  pub corners-different : ((k : ℕ) → EqualCorners T k → ⊥)
+      → (c d : ℕ) → c < length T → d < length T → c / 3 ≡ d / 3 → at T c ≡ at T d → c ≡ d
+  corners-different none c d l m t e = go (ℕ-discrete c d)
+    where
+      go : Dec (c ≡ d) → c ≡ d
+      go (yes p) = p
+      go (no p) =
+          absurd (none (d / 3) (record {
+            v = at T d;
+            one = record { corner = c; inside = l; triangle = t; holds = e };
+            other = on-corner T d m;
+            two = p;
+          }))
 
-    triangles-unlike : (j k : ℕ) → j < triangles T → k < triangles T → Same T j T k → j ≡ k
-    unfolding Passed
-    triangles-unlike j k l m s = neither-less
-        (λ b. passed .1 .1 .0 k (record { earlier = j; before = b; inside = m; same = s }))
-        (λ b. passed .1 .1 .0 j (record { earlier = k; before = b; inside = l; same = same-sym s }))
+  -- where 8 is not given, no two triangles are the same
+  triangles-unlike : ((k : ℕ) → SameAsEarlier T k → ⊥)
+      → (j k : ℕ) → j < triangles T → k < triangles T → Same T j T k → j ≡ k
+  triangles-unlike none j k l m s =
+      neither-less
+      (λ b. none k (record { earlier = j; before = b; inside = m; same = s }))
+      (λ b. none j (record { earlier = k; before = b; inside = l; same = same-sym s }))
 
-    vertices-used : (v : ℕ) → v < N → (k : ℕ) × On T k v
-    unfolding Passed
-    vertices-used v l = go (find-below (length T) (λ c h. ℕ-discrete (at T c) v))
-      where
-        go : ((c : ℕ) × (c < length T) × (at T c ≡ v)) ⊎ ((c : ℕ) → c < length T → at T c ≡ v → ⊥) → (k : ℕ) × On T k v
-        go (inl (c, h, e)) = (c / 3, record { corner = c; inside = h; triangle = refl; holds = e })
-        go (inr none) =
-            absurd (passed .1 .1 .1 .0 v
-            (record { inside = l; nowhere = λ k o. none (o .corner) (o .inside) (o .holds) }))
+  -- where 9 is not given, every vertex is in a triangle
+  vertices-used : ((v : ℕ) → InNoTriangle N T v → ⊥) → (v : ℕ) → v < N → (k : ℕ) × On T k v
+  vertices-used none v l = go (find-below (length T) (λ c h. ℕ-discrete (at T c) v))
+    where
+      go : ((c : ℕ) × (c < length T) × (at T c ≡ v)) ⊎ ((c : ℕ) → c < length T → at T c ≡ v → ⊥) → (k : ℕ) × On T k v
+      go (inl (c, h, e)) = (c / 3, record { corner = c; inside = h; triangle = refl; holds = e })
+      go (inr unheld) =
+          absurd (none v (record { inside = l; nowhere = λ k o. unheld (o .corner) (o .inside) (o .holds) }))
 
-    triangles-connected : (k : ℕ) → k < triangles T → Reach T 0 k
-    unfolding Passed
-    triangles-connected k l = go (reach? T 0 k)
-      where
-        go : Dec (Reach T 0 k) → Reach T 0 k
-        go (yes h) = h
-        go (no h) = absurd (passed .1 .1 .1 .1 .0 k (record { inside = l; apart = h }))
+  -- where 10 is not given, the triangles are connected
+  triangles-connected : ((k : ℕ) → NotConnected T k → ⊥) → (k : ℕ) → k < triangles T → Reach T 0 k
+  triangles-connected none k l = go (reach? T 0 k)
+    where
+      go : Dec (Reach T 0 k) → Reach T 0 k
+      go (yes h) = h
+      go (no h) = absurd (none k (record { inside = l; apart = h }))
 
-    pub passed-proper : Proper N T
-    passed-proper = record {
-      otherwise = record {
-        whole = whole;
-        below = corners-below;
-        different = corners-different;
-        unlike = triangles-unlike;
-        used = vertices-used;
-      };
-      connected = triangles-connected;
-    }
+  -- where none is given, the mesh is proper
+  pub passed-proper : length T ≡ 3 * triangles T → Passed (meshRules N T) → Proper N T
+  unfolding Passed
+  passed-proper whole passed =
+      record {
+        otherwise = record {
+          whole = whole;
+          below = corners-below (passed .0);
+          different = corners-different (passed .1 .0);
+          unlike = triangles-unlike (passed .1 .1 .0);
+          used = vertices-used (passed .1 .1 .1 .0);
+        };
+        connected = triangles-connected (passed .1 .1 .1 .1 .0);
+      }
 
   -- ---- proper, so passed
 

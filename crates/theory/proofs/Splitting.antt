@@ -190,12 +190,12 @@ module _ (T : List ℕ) where
       (eq→eqb (lesser T g) (lesser T h) (e .low)) (eq→eqb (greater T g) (greater T h) (e .high))
 
   -- the first appearance is not later
-  firstOn-le : (h : ℕ) → firstOn T h ≤ h
+  pub firstOn-le : (h : ℕ) → firstOn T h ≤ h
   unfolding firstOn
   firstOn-le h = omega (arith, firstFrom-le (sameEdge T h) 0 h)
 
   -- the first appearance is on the edge
-  firstOn-same : (h : ℕ) → SameEdge T (firstOn T h) h
+  pub firstOn-same : (h : ℕ) → SameEdge T (firstOn T h) h
   unfolding firstOn
   firstOn-same h = elim (decLt (firstOn T h) h) [ yes l ↦ before l | no l ↦ itself l ]
     where
@@ -208,7 +208,7 @@ module _ (T : List ℕ) where
           rw e (sameEdge-refl T h)
 
   -- no half-edge before the first appearance is on the edge
-  firstOn-least : (g h : ℕ) → SameEdge T g h → firstOn T h ≤ g
+  pub firstOn-least : (g h : ℕ) → SameEdge T g h → firstOn T h ≤ g
   unfolding firstOn
   firstOn-least g h e = elim (decLt g (firstOn T h)) [
     | yes l ↦ absurd (firstFrom-before (sameEdge T h) 0 h g (omega arith) l (sameEdge-passes g h e))
@@ -216,7 +216,7 @@ module _ (T : List ℕ) where
   ]
 
   -- the half-edges of one edge have one first appearance
-  firstOn-cong : (g h : ℕ) → SameEdge T g h → firstOn T g ≡ firstOn T h
+  pub firstOn-cong : (g h : ℕ) → SameEdge T g h → firstOn T g ≡ firstOn T h
   firstOn-cong g h e = omega (
     arith,
     firstOn-least (firstOn T g) h (sameEdge-trans (firstOn-same g) e),
@@ -224,7 +224,7 @@ module _ (T : List ℕ) where
   )
 
   -- a first appearance is the first appearance of its own edge
-  firstOn-isFirst : (h : ℕ) → Passes (isFirst T (firstOn T h))
+  pub firstOn-isFirst : (h : ℕ) → Passes (isFirst T (firstOn T h))
   unfolding isFirst
   firstOn-isFirst h = eq→eqb (firstOn T (firstOn T h)) (firstOn T h) (firstOn-cong (firstOn T h) h (firstOn-same h))
 

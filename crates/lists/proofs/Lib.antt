@@ -1,0 +1,7 @@
+-- Laws for the proofs of the functions, and for whoever calls them.
+pub mod Lists
+pub mod Chains
+pub mod SamePair
+pub mod Tables
+pub mod Marks
+pub mod Keys

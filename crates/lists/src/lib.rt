@@ -1,0 +1,249 @@
+// Small loops over slices of 16-bit entries: an entry as an index, fill and copy, ranks of marked indices, values at
+// their keys, chains of equal keys, and the least index with the same pair of keys. It knows nothing of meshes, takes
+// time linear in the numbers that it is given, and assumes nothing.
+ghost use mathlib.Core.Path.{_≡_};
+ghost use Prim.Native.Nat.{_<_, _≤_};
+ghost use mathlib.Core.List.{_++_};
+ghost use lib.ListN.{length, take, drop, replicate};
+ghost use Rattle.theory.specs.Mesh.{at};
+ghost use Rattle.theory.specs.Calls.{zeros};
+ghost use Rattle.lists.specs.Places.{Place};
+ghost use Rattle.lists.specs.Tables.{Tabulated};
+ghost use Rattle.lists.specs.Marks.{bitOf, RanksLent, RanksOf};
+ghost use Rattle.lists.specs.Keys.{KeysLent, InvertLent, Scattered, Holds};
+ghost use Rattle.lists.specs.Chains.{ChainLent, Chained};
+ghost use Rattle.lists.specs.Pairs.{PairsLent, FirstPairs, Leads, WalkLent, Walked};
+
+// The entry of `s` at index `i`, as an index.
+pub fn at(s: &[u16], i: usize) -> usize
+    requires { do ⌜ i < (← ⟦s.len()⟧) ⌝ }
+    ensures { λ r. ⌜ r ≡ at (now (s .entry)) i ⌝ }
+{
+    s[i] as usize
+}
+
+// Sets the first `n` entries of `s` to `value`.
+pub fn fill(s: &mut [u16], n: usize, value: u16)
+    requires { do ⌜ n ≤ (← ⟦s.len()⟧) ⌝ }
+    ensures { λ _. ⌜ now (s .exit) ≡ replicate n value ++ drop n (now (s .entry)) ⌝ }
+{
+    let mut i = 0;
+    while i < n {
+        s[i] = value;
+        i += 1;
+    }
+}
+
+// Sets every entry of `s` to 0.
+pub fn clear(s: &mut [u16])
+    ensures { λ _. ⌜ now (s .exit) ≡ zeros (now (s .entry)) ⌝ }
+{
+    let n = s.len();
+    fill(s, n, 0);
+}
+
+// Copies the first `n` entries of `from` over those of `to`.
+pub fn copy(from: &[u16], to: &mut [u16], n: usize)
+    requires { do ⌜ n ≤ (← ⟦from.len()⟧) ⌝ }
+    requires { do ⌜ n ≤ (← ⟦to.len()⟧) ⌝ }
+    ensures { λ _. ⌜ now (to .exit) ≡ take n (now (from .entry)) ++ drop n (now (to .entry)) ⌝ }
+{
+    let mut i = 0;
+    while i < n {
+        to[i] = from[i];
+        i += 1;
+    }
+}
+
+// The least index below `n` whose entry is 0, or `n` where there is none.
+pub fn first_zero(s: &[u16], n: usize) -> usize
+    requires { do ⌜ n ≤ (← ⟦s.len()⟧) ⌝ }
+    ensures { λ r. ⌜ Place (λ i. at (now (s .entry)) i ≡ 0) n r ⌝ }
+{
+    let mut i = 0;
+    while i < n {
+        if s[i] == 0 {
+            return i;
+        }
+        i += 1;
+    }
+    n
+}
+
+// The rank of each index below `n`: how many marked ones, with an entry other than 0, stand before it. Answers how
+// many are marked.
+pub fn ranks(marks: &[u16], n: usize, rank: &mut [u16]) -> usize
+    requires { ⌜ RanksLent n (now marks) (now rank) ⌝ }
+    ensures { λ r. ⌜ RanksOf n (now (marks .entry)) r (now (rank .exit)) ⌝ }
+{
+    let mut count = 0;
+    let mut i = 0;
+    while i < n {
+        rank[i] = count as u16;
+        count += bit(marks[i]);
+        i += 1;
+    }
+    count
+}
+
+// 1 for a mark, 0 for none.
+fn bit(mark: u16) -> usize
+    ensures { λ r. ⌜ r ≡ bitOf mark ⌝ }
+{
+    if mark != 0 { 1 } else { 0 }
+}
+
+// Looks up the first `n` keys: `out[p]` is the entry of `table` at `keys[p]`.
+pub fn gather(table: &[u16], keys: &[u16], n: usize, out: &mut [u16])
+    requires { ⌜ KeysLent n (now keys) (now table) (now out) ⌝ }
+    ensures { λ _. ⌜ Tabulated (λ p. at (now (table .entry)) (at (now (keys .entry)) p)) n (now (out .exit)) ⌝ }
+{
+    let mut p = 0;
+    while p < n {
+        out[p] = table[at(keys, p)];
+        p += 1;
+    }
+}
+
+// Puts each of the first `n` values into `table` at its key; of several at one key the last stays.
+pub fn scatter(keys: &[u16], values: &[u16], n: usize, table: &mut [u16])
+    requires { ⌜ KeysLent n (now keys) (now table) (now values) ⌝ }
+    ensures { λ _. ⌜ Scattered (at (now (values .entry))) n (now (keys .entry)) (now (table .entry)) (now (table .exit)) ⌝ }
+{
+    let mut p = 0;
+    while p < n {
+        table[at(keys, p)] = values[p];
+        p += 1;
+    }
+}
+
+// Whether `table` holds each of the first `n` values at its key.
+pub fn holds(keys: &[u16], values: &[u16], n: usize, table: &[u16]) -> bool
+    requires { ⌜ KeysLent n (now keys) (now table) (now values) ⌝ }
+    ensures { λ r. ⌜ Holds (at (now (values .entry))) n (now (keys .entry)) (now (table .entry)) r ⌝ }
+{
+    let mut p = 0;
+    while p < n {
+        if table[at(keys, p)] != values[p] {
+            return false;
+        }
+        p += 1;
+    }
+    true
+}
+
+// Puts the index of each of the first `n` keys into `table` at the key; of several equal keys the last index stays.
+pub fn invert(keys: &[u16], n: usize, table: &mut [u16])
+    requires { ⌜ InvertLent n (now keys) (now table) ⌝ }
+    ensures { λ _. ⌜ Scattered (λ p. p) n (now (keys .entry)) (now (table .entry)) (now (table .exit)) ⌝ }
+{
+    let mut p = 0;
+    while p < n {
+        table[at(keys, p)] = p as u16;
+        p += 1;
+    }
+}
+
+// Whether `table` holds the index of each of the first `n` keys at the key.
+pub fn inverts(keys: &[u16], n: usize, table: &[u16]) -> bool
+    requires { ⌜ InvertLent n (now keys) (now table) ⌝ }
+    ensures { λ r. ⌜ Holds (λ p. p) n (now (keys .entry)) (now (table .entry)) r ⌝ }
+{
+    let mut p = 0;
+    while p < n {
+        if at(table, at(keys, p)) != p {
+            return false;
+        }
+        p += 1;
+    }
+    true
+}
+
+// Chains the indices below `n` by their keys, which are below `m`: `head[u]` is the least index that holds the key u,
+// and `link[h]` the least one after h that holds h's key, each `n` where there is none.
+pub fn chain(keys: &[u16], m: usize, n: usize, head: &mut [u16], link: &mut [u16])
+    requires { ⌜ ChainLent (now keys) m n (now head) (now link) ⌝ }
+    ensures { λ _. ⌜ Chained (now (keys .entry)) m n (now (head .exit)) (now (link .exit)) ⌝ }
+{
+    fill(head, m, n as u16);
+    link_back(keys, m, n, head, link);
+}
+
+// The chains, from heads that are all `n`: from the last index to the first, each is put in front of its key's chain.
+fn link_back(keys: &[u16], m: usize, n: usize, head: &mut [u16], link: &mut [u16])
+    requires { ⌜ ChainLent (now keys) m n (now head) (now link) ⌝ }
+    requires { ⌜ take m (now head) ≡ replicate m n ⌝ }
+    ensures { λ _. ⌜ Chained (now (keys .entry)) m n (now (head .exit)) (now (link .exit)) ⌝ }
+{
+    let mut h = n;
+    while 0 < h {
+        h -= 1;
+        let key = at(keys, h);
+        link[h] = head[key];
+        head[key] = h as u16;
+    }
+}
+
+// For each index h below `n` the least index with the same key and the same other key goes to `least[h]`. `head` and
+// `link` are the chains of `keys`; what `seen` holds at first does not matter.
+pub fn pairs(
+    keys: &[u16],
+    others: &[u16],
+    m: usize,
+    n: usize,
+    head: &[u16],
+    link: &[u16],
+    seen: &mut [u16],
+    least: &mut [u16],
+)
+    requires { ⌜ PairsLent (now keys) (now others) m n (now head) (now link) (now seen) (now least) ⌝ }
+    ensures { λ _. ⌜ FirstPairs (now (keys .entry)) (now (others .entry)) n (now (least .exit)) ⌝ }
+{
+    let mut u = 0;
+    while u < m {
+        walk(at(head, u), n, keys, others, link, seen, least);
+        u += 1;
+    }
+}
+
+// The same along one chain, from the index `start`. `seen[x]` is the first index of the chain so far whose other key
+// is x; an entry counts only if it stands before h and has h's keys, so nothing is cleared between chains.
+fn walk(
+    start: usize,
+    n: usize,
+    keys: &[u16],
+    others: &[u16],
+    link: &[u16],
+    seen: &mut [u16],
+    least: &mut [u16],
+)
+    requires { ⌜ WalkLent (now keys) (now others) start n (now link) (now seen) (now least) ⌝ }
+    ensures { λ _. ⌜ Walked (now (keys .entry)) (now (others .entry)) start n (now (least .entry)) (now (least .exit)) ⌝ }
+{
+    let mut h = start;
+    while h < n {
+        let x = at(others, h);
+        let first = leader(keys, others, at(seen, x), h);
+        seen[x] = first as u16;
+        least[h] = first as u16;
+        h = at(link, h);
+    }
+}
+
+// `candidate`, if it stands before h and has the same two keys; else h.
+fn leader(keys: &[u16], others: &[u16], candidate: usize, h: usize) -> usize
+    requires { do ⌜ h < (← ⟦keys.len()⟧) ⌝ }
+    requires { do ⌜ h < (← ⟦others.len()⟧) ⌝ }
+    ensures { λ r. ⌜ Leads (now (keys .entry)) (now (others .entry)) candidate h r ⌝ }
+{
+    if h <= candidate {
+        return h;
+    }
+    if keys[candidate] != keys[h] {
+        return h;
+    }
+    if others[candidate] != others[h] {
+        return h;
+    }
+    candidate
+}
