@@ -18,4 +18,6 @@ sizeRules most N n =
 abbrev pub splitSizeRules : ℕ → ℕ → ℕ → ℕ → List Rule
 splitSizeRules N n out work =
     sizeRules mostSplitTriangles N n
-    ++ (tooShort (record { lent = out; needed = 12 * (n / 3) } ∷ record { lent = work; needed = N + 3 * (n / 3) } ∷ []) ∷ [])
+    ++ (tooShort
+    (record { lent = out; needed = 12 * (n / 3) } ∷ record { lent = work; needed = N + 3 * (n / 3) } ∷ [])
+    ∷ [])

@@ -78,7 +78,8 @@ fn split_mesh(
     work3: &mut [u16],
     work4: &mut [u16],
 ) -> Answer
-    requires { ⌜ SplitLent vertices (now list) (now out) (now head) (now link) (now first) (now work1) (now work2) (now work3) (now work4) ⌝ }
+    requires { ⌜ SplitLent vertices (now list) (now out) (now head) (now link) (now first) (now work1) (now work2)
+        (now work3) (now work4) ⌝ }
     ensures { λ r. ⌜ SplitsMesh vertices (now (list .entry)) (now (out .entry)) (answerOf r) (now (out .exit)) ⌝ }
 {
     let triangles = list.len() / 3;

@@ -40,9 +40,10 @@ pub(crate) fn clear_all(
     f: &mut [u16],
     g: &mut [u16],
 )
-    ensures { λ _. ⌜ (now (a .exit) ∷ now (b .exit) ∷ now (c .exit) ∷ now (d .exit) ∷ now (e .exit) ∷ now (f .exit) ∷ now (g .exit) ∷ [])
-        ≡ map zeros (now (a .entry) ∷ now (b .entry) ∷ now (c .entry) ∷ now (d .entry) ∷ now (e .entry) ∷ now (f .entry)
-        ∷ now (g .entry) ∷ []) ⌝ }
+    ensures { λ _. ⌜ (now (a .exit) ∷ now (b .exit) ∷ now (c .exit) ∷ now (d .exit) ∷ now (e .exit)
+        ∷ now (f .exit) ∷ now (g .exit) ∷ [])
+        ≡ map zeros (now (a .entry) ∷ now (b .entry) ∷ now (c .entry) ∷ now (d .entry) ∷ now (e .entry)
+        ∷ now (f .entry) ∷ now (g .entry) ∷ []) ⌝ }
 {
     clear(a);
     clear(b);

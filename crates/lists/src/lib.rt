@@ -108,7 +108,8 @@ pub fn gather(table: &[u16], keys: &[u16], n: usize, out: &mut [u16])
 // Puts each of the first `n` values into `table` at its key; of several at one key the last stays.
 pub fn scatter(keys: &[u16], values: &[u16], n: usize, table: &mut [u16])
     requires { ⌜ KeysLent n (now keys) (now table) (now values) ⌝ }
-    ensures { λ _. ⌜ Scattered (at (now (values .entry))) n (now (keys .entry)) (now (table .entry)) (now (table .exit)) ⌝ }
+    ensures { λ _. ⌜ Scattered (at (now (values .entry))) n (now (keys .entry)) (now (table .entry))
+        (now (table .exit)) ⌝ }
 {
     let mut p = 0;
     while p < n {
@@ -218,7 +219,8 @@ fn walk(
     least: &mut [u16],
 )
     requires { ⌜ WalkLent (now keys) (now others) start n (now link) (now seen) (now least) ⌝ }
-    ensures { λ _. ⌜ Walked (now (keys .entry)) (now (others .entry)) start n (now (least .entry)) (now (least .exit)) ⌝ }
+    ensures { λ _. ⌜ Walked (now (keys .entry)) (now (others .entry)) start n (now (least .entry))
+        (now (least .exit)) ⌝ }
 {
     let mut h = start;
     while h < n {

@@ -4,7 +4,8 @@ use mathlib.Core.Path.{_≡_}
 use mathlib.Core.List.{List, [], _∷_}
 use lib.ListN.{length}
 use Rattle.theory.specs.Mesh.{at, triangles}
-use Rattle.theory.specs.Refusals.{Rule, cornerNotBelow, equalCorners, sameAsEarlier, inNoTriangle, notConnected, meshRules}
+use Rattle.theory.specs.Refusals.{Rule, cornerNotBelow, equalCorners}
+use Rattle.theory.specs.Refusals.{sameAsEarlier, inNoTriangle, notConnected, meshRules}
 use Rattle.theory.specs.Refusals.{Passed, Refused}
 use Rattle.mesh.specs.Tables.{Work, EdgeTable}
 use Rattle.mesh.specs.Faults.{Whole}

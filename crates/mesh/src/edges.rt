@@ -19,8 +19,10 @@ pub fn edge_table(
     seen: &mut [u16],
     first: &mut [u16],
 )
-    requires { ⌜ EdgesLent vertices triangles (now list) (now lesser) (now greater) (now head) (now link) (now seen) (now first) ⌝ }
-    ensures { λ _. ⌜ EdgeTable triangles (now (list .entry)) (now (head .exit)) (now (link .exit)) (now (first .exit)) ⌝ }
+    requires { ⌜ EdgesLent vertices triangles (now list) (now lesser) (now greater) (now head) (now link) (now seen)
+        (now first) ⌝ }
+    ensures { λ _. ⌜ EdgeTable triangles (now (list .entry)) (now (head .exit)) (now (link .exit))
+        (now (first .exit)) ⌝ }
 {
     let halves = 3 * triangles;
     lesser_ends(list, triangles, lesser);

@@ -41,7 +41,7 @@ pub fn equal_corners(list: &[u16], triangles: usize) -> usize
 }
 
 // Whether two of three vertices are equal.
-fn has_equal(a: u16, b: u16, c: u16) -> bool
+pub fn has_equal(a: u16, b: u16, c: u16) -> bool
     ensures { λ r. ⌜ HasEqual a b c r ⌝ }
 {
     if a == b {
@@ -67,7 +67,8 @@ pub fn same_as_earlier(
     thirds: &mut [u16],
     twins: &mut [u16],
 ) -> usize
-    requires { ⌜ SameLent vertices triangles (now list) (now head) (now link) (now first) (now seen) (now thirds) (now twins) ⌝ }
+    requires { ⌜ SameLent vertices triangles (now list) (now head) (now link) (now first) (now seen) (now thirds)
+        (now twins) ⌝ }
     ensures { λ r. ⌜ Place (SameAsEarlier (now (list .entry))) triangles r ⌝ }
 {
     let halves = 3 * triangles;
@@ -102,7 +103,7 @@ pub fn in_no_triangle(list: &[u16], vertices: usize, triangles: usize, marks: &m
 }
 
 // Marks the vertices of the triangles, on marks that are all 0.
-fn mark_used(list: &[u16], vertices: usize, triangles: usize, marks: &mut [u16])
+pub fn mark_used(list: &[u16], vertices: usize, triangles: usize, marks: &mut [u16])
     requires { ⌜ MarksLent vertices triangles (now list) (now marks) ⌝ }
     ensures { λ _. ⌜ UsedMarks vertices (now (list .entry)) (3 * triangles) (now (marks .exit)) ⌝ }
 {

@@ -8,7 +8,8 @@ use super::faults::same_as_earlier;
 use super::reach::reach;
 use lists::first_zero;
 ghost use Rattle.mesh.specs.Faults.{Whole};
-ghost use Rattle.mesh.specs.Judged.{Judged, JudgeLent, cornerRules, TrianglesLent, TrianglesJudged, ConnectLent, connectedRules, MeshJudged};
+ghost use Rattle.mesh.specs.Judged.{Judged, JudgeLent, cornerRules, TrianglesLent};
+ghost use Rattle.mesh.specs.Judged.{TrianglesJudged, ConnectLent, connectedRules, MeshJudged};
 
 // A refusal's number and place, or 0 and 0 where none is given.
 pub struct Verdict {
@@ -54,9 +55,10 @@ fn judge_triangles(
     work3: &mut [u16],
     work4: &mut [u16],
 ) -> Verdict
-    requires { ⌜ TrianglesLent vertices triangles (now list) (now head) (now link) (now first) (now work1) (now work2) (now work3) (now work4) ⌝ }
-    ensures { λ r. ⌜ TrianglesJudged vertices triangles (now (list .entry)) (now (head .exit)) (now (link .exit)) (now (first .exit))
-        (r .number) (r .place) ⌝ }
+    requires { ⌜ TrianglesLent vertices triangles (now list) (now head) (now link) (now first) (now work1)
+        (now work2) (now work3) (now work4) ⌝ }
+    ensures { λ r. ⌜ TrianglesJudged vertices triangles (now (list .entry)) (now (head .exit)) (now (link .exit))
+        (now (first .exit)) (r .number) (r .place) ⌝ }
 {
     edge_table(
         list,
@@ -141,9 +143,10 @@ pub fn judge(
     work3: &mut [u16],
     work4: &mut [u16],
 ) -> Verdict
-    requires { ⌜ JudgeLent vertices triangles (now list) (now head) (now link) (now first) (now work1) (now work2) (now work3) (now work4) ⌝ }
-    ensures { λ r. ⌜ MeshJudged vertices triangles (now (list .entry)) (now (head .exit)) (now (link .exit)) (now (first .exit))
-        (r .number) (r .place) ⌝ }
+    requires { ⌜ JudgeLent vertices triangles (now list) (now head) (now link) (now first) (now work1) (now work2)
+        (now work3) (now work4) ⌝ }
+    ensures { λ r. ⌜ MeshJudged vertices triangles (now (list .entry)) (now (head .exit)) (now (link .exit))
+        (now (first .exit)) (r .number) (r .place) ⌝ }
 {
     let v = judge_corners(list, vertices, triangles);
     if v.number != 0 {

@@ -91,9 +91,8 @@ fn open_edge(
     opened: &mut [u16],
 ) -> usize
     requires { ⌜ OpenLent first triangles (now link) (now owner) filled (now marks) (now queue) (now opened) ⌝ }
-    ensures { λ r. ⌜ EdgeOpened first triangles (now (link .entry))
-        filled (now (marks .entry)) (now (queue .entry)) (now (opened .entry))
-        r (now (marks .exit)) (now (queue .exit)) (now (opened .exit)) ⌝ }
+    ensures { λ r. ⌜ EdgeOpened first triangles (now (link .entry)) filled (now (marks .entry)) (now (queue .entry))
+        (now (opened .entry)) r (now (marks .exit)) (now (queue .exit)) (now (opened .exit)) ⌝ }
 {
     if opened[first] != 0 {
         return filled;
@@ -113,9 +112,8 @@ fn visit_edge(
     queue: &mut [u16],
 ) -> usize
     requires { ⌜ EdgeLent triangles (now link) (now owner) filled (now marks) (now queue) ⌝ }
-    ensures { λ r. ⌜ EdgeVisited first triangles (now (link .entry))
-        filled (now (marks .entry)) (now (queue .entry))
-        r (now (marks .exit)) (now (queue .exit)) ⌝ }
+    ensures { λ r. ⌜ EdgeVisited first triangles (now (link .entry)) filled (now (marks .entry))
+        (now (queue .entry)) r (now (marks .exit)) (now (queue .exit)) ⌝ }
 {
     let mut count = filled;
     let mut h = first;
@@ -129,8 +127,8 @@ fn visit_edge(
 // Marks a triangle and puts it at the end of the queue, unless it is marked.
 fn visit(k: usize, filled: usize, marks: &mut [u16], queue: &mut [u16]) -> usize
     requires { ⌜ VisitLent k filled (now marks) (now queue) ⌝ }
-    ensures { λ r. ⌜ Visited k filled (now (marks .entry)) (now (queue .entry))
-        r (now (marks .exit)) (now (queue .exit)) ⌝ }
+    ensures { λ r. ⌜ Visited k filled (now (marks .entry)) (now (queue .entry)) r (now (marks .exit))
+        (now (queue .exit)) ⌝ }
 {
     if marks[k] != 0 {
         return filled;

@@ -57,8 +57,8 @@ pub fn write_fours(list: &[u16], triangles: usize, numbers: &[u16], out: &mut [u
 // The four triangles of triangle k.
 fn write_four(list: &[u16], k: usize, numbers: &[u16], out: &mut [u16])
     requires { ⌜ FourLent k (now list) (now numbers) (now out) ⌝ }
-    ensures { λ _. ⌜ now (out .exit)
-        ≡ sets (now (out .entry)) (12 * k) (fourOf (now (list .entry)) (now (numbers .entry)) k) ⌝ }
+    ensures { λ _. ⌜ now (out .exit) ≡ sets (now (out .entry)) (12 * k)
+        (fourOf (now (list .entry)) (now (numbers .entry)) k) ⌝ }
 {
     let v1 = list[3 * k];
     let v2 = list[3 * k + 1];
@@ -73,7 +73,7 @@ fn write_four(list: &[u16], k: usize, numbers: &[u16], out: &mut [u16])
 }
 
 // The three corners of triangle t.
-fn write_triangle(out: &mut [u16], t: usize, a: u16, b: u16, c: u16)
+pub fn write_triangle(out: &mut [u16], t: usize, a: u16, b: u16, c: u16)
     requires { do ⌜ 3 * t + 3 ≤ (← ⟦out.len()⟧) ⌝ }
     ensures { λ _. ⌜ now (out .exit) ≡ sets (now (out .entry)) (3 * t) (a ∷ b ∷ c ∷ []) ⌝ }
 {

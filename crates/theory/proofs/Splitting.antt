@@ -27,7 +27,7 @@ pair-ends : (a b c d : ℕ) → min a b ≡ min c d → max a b ≡ max c d → 
 pair-ends a b c d p q = elim (ℕ-discrete a c) [ yes h ↦ inl (h, omega arith) | no h ↦ inr (omega arith, omega arith) ]
 
 -- what holds at 0, 1 and 2 holds below 3
-by-three : (P : ℕ → Type 0) → P 0 → P 1 → P 2 → (i : ℕ) → i < 3 → P i
+pub by-three : (P : ℕ → Type 0) → P 0 → P 1 → P 2 → (i : ℕ) → i < 3 → P i
 by-three P p q r zero b = p
 by-three P p q r (suc zero) b = q
 by-three P p q r (suc (suc zero)) b = r

@@ -8,7 +8,7 @@ use lib.Seq.{sets}
 use borrow.Author.Needs.{needs}
 use Rattle.theory.specs.Mesh.{at}
 use Rattle.split.specs.Fours.{fourOf}
-use Rattle.split.proofs.Stores.{sets-append}
+use Rattle.lists.proofs.Stores.{sets-append}
 use Rattle.split.proofs.write_four.Statement.{statement}
 use Rattle.split.proofs.write_four.Tie as tie
 

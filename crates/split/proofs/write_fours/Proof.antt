@@ -14,7 +14,7 @@ use Rattle.theory.specs.Splitting.{edgeNo, four, fours, split}
 use Rattle.theory.proofs.Splitting.{split-length}
 use Rattle.lists.specs.Tables.{Tabulated}
 use Rattle.split.specs.Fours.{FoursLent, FourLent, fourOf}
-use Rattle.split.proofs.Stores.{sets-front}
+use Rattle.lists.proofs.Stores.{sets-front}
 use Rattle.split.proofs.write_fours.Statement.{statement}
 use Rattle.split.proofs.write_fours.Tie as tie
 

@@ -46,25 +46,29 @@ first c = cleared (left (worked c .before) .before)
 abbrev lent : tie.Start → List (List ℕ)
 lent s =
     let a = s .args in
-    seven (a .work1 .now) (a .work2 .now) (a .work3 .now) (a .work4 .now) (a .work5 .now) (a .work6 .now) (a .work7 .now)
+    seven (a .work1 .now) (a .work2 .now) (a .work3 .now) (a .work4 .now) (a .work5 .now) (a .work6 .now)
+    (a .work7 .now)
 
 -- as they are first cleared
 abbrev zero-at-first : tie.After-clear-all → List (List ℕ)
 zero-at-first c =
     let l = c .clear-all .last in
-    seven (l .0) (l .1 .0) (l .1 .1 .0) (l .1 .1 .1 .0) (l .1 .1 .1 .1 .0) (l .1 .1 .1 .1 .1 .0) (l .1 .1 .1 .1 .1 .1 .0)
+    seven (l .0) (l .1 .0) (l .1 .1 .0) (l .1 .1 .1 .0) (l .1 .1 .1 .1 .0) (l .1 .1 .1 .1 .1 .0)
+    (l .1 .1 .1 .1 .1 .1 .0)
 
 -- as `split_mesh` leaves them
 abbrev used : tie.After-split-mesh → List (List ℕ)
 used c =
     let l = c .split-mesh .last .1 .1 .1 in
-    seven (l .0) (l .1 .0) (l .1 .1 .0) (l .1 .1 .1 .0) (l .1 .1 .1 .1 .0) (l .1 .1 .1 .1 .1 .0) (l .1 .1 .1 .1 .1 .1 .0)
+    seven (l .0) (l .1 .0) (l .1 .1 .0) (l .1 .1 .1 .0) (l .1 .1 .1 .1 .0) (l .1 .1 .1 .1 .1 .0)
+    (l .1 .1 .1 .1 .1 .1 .0)
 
 -- as they are at the end
 abbrev zero-at-end : tie.After-clear-all2 → List (List ℕ)
 zero-at-end c =
     let l = c .clear-all2 .last in
-    seven (l .0) (l .1 .0) (l .1 .1 .0) (l .1 .1 .1 .0) (l .1 .1 .1 .1 .0) (l .1 .1 .1 .1 .1 .0) (l .1 .1 .1 .1 .1 .1 .0)
+    seven (l .0) (l .1 .0) (l .1 .1 .0) (l .1 .1 .1 .0) (l .1 .1 .1 .1 .0) (l .1 .1 .1 .1 .1 .0)
+    (l .1 .1 .1 .1 .1 .1 .0)
 
 -- they are zero then
 all-zero : (c : tie.After-clear-all2)
@@ -73,7 +77,8 @@ all-zero c =
     let k = worked c .split-mesh .kept .1 .1 .1 in
     let f = first c in
     cleared-again (lent (entry (judged f))) (zero-at-first f) (used (worked c)) (zero-at-end c) (f .clear-all .ensures)
-    (seven-equal (k .0) (k .1 .0) (k .1 .1 .0) (k .1 .1 .1 .0) (k .1 .1 .1 .1 .0) (k .1 .1 .1 .1 .1 .0) (k .1 .1 .1 .1 .1 .1 .0))
+    (seven-equal (k .0) (k .1 .0) (k .1 .1 .0) (k .1 .1 .1 .0) (k .1 .1 .1 .1 .0) (k .1 .1 .1 .1 .1 .0)
+    (k .1 .1 .1 .1 .1 .1 .0))
     (c .clear-all2 .ensures)
 
 -- so they are as long as they were lent
@@ -95,8 +100,8 @@ clear-all-requires c κs = search needs
 -- the verdict on the sizes
 sizes : (c : tie.After-judge-split-size)
     → let a = entry c .args in
-    SizesJudged (a .vertices) (a .list .now) (a .out .now) (a .work1 .now) (a .work2 .now) (a .work3 .now) (a .work4 .now)
-    (a .work5 .now) (a .work6 .now) (a .work7 .now) (c .judge-split-size .result)
+    SizesJudged (a .vertices) (a .list .now) (a .out .now) (a .work1 .now) (a .work2 .now) (a .work3 .now)
+    (a .work4 .now) (a .work5 .now) (a .work6 .now) (a .work7 .now) (c .judge-split-size .result)
 sizes c =
     record {
       work = c .before .shortest .result;

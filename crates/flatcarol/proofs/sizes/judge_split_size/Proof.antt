@@ -14,7 +14,8 @@ use Rattle.flatcarol.proofs.Rules.{judged-at-0, judged-not, Sized, size
 use Rattle.flatcarol.proofs.sizes.judge_split_size.Statement.{statement}
 use Rattle.flatcarol.proofs.sizes.judge_split_size.Tie as tie
 
-module _ (N n out work : ℕ) {number : ℕ} (verdict : Judged (sizeRules mostSplitTriangles N n) number 0) (e : number ≡ 0) where
+module _ (N n out work : ℕ) {number : ℕ} (verdict : Judged (sizeRules mostSplitTriangles N n) number 0)
+    (e : number ≡ 0) where
   -- the sizes are right
   right : Sized mostSplitTriangles N n
   right = sized mostSplitTriangles N n (size-passed mostSplitTriangles N n verdict e)
@@ -23,7 +24,8 @@ module _ (N n out work : ℕ) {number : ℕ} (verdict : Judged (sizeRules mostSp
   short-output : out < 12 * (n / 3) → Judged (splitSizeRules N n out work) 5 0
   unfolding Short
   short-output l =
-      judged-back (sizeRules mostSplitTriangles N n) (size-passed mostSplitTriangles N n verdict e) (judged-at-0 (inl l))
+      judged-back (sizeRules mostSplitTriangles N n) (size-passed mostSplitTriangles N n verdict e)
+      (judged-at-0 (inl l))
 
   -- a work buffer that is
   short-work : work < N + 3 * (n / 3) → Judged (splitSizeRules N n out work) 5 0
@@ -39,13 +41,18 @@ module _ (N n out work : ℕ) {number : ℕ} (verdict : Judged (sizeRules mostSp
       judged-back (sizeRules mostSplitTriangles N n) (size-passed mostSplitTriangles N n verdict e)
       (judged-not fits judged-none)
     where
-      fits : Short (record { lent = out; needed = 12 * (n / 3) } ∷ record { lent = work; needed = N + 3 * (n / 3) } ∷ []) → ⊥
+      fits : Short
+          (record { lent = out; needed = 12 * (n / 3) } ∷ record { lent = work; needed = N + 3 * (n / 3) } ∷ []) → ⊥
       fits (inl h) = omega arith
       fits (inr (inl h)) = omega arith
 
 -- past the first test
-sizes : (c : tie.Else1) → Sized mostSplitTriangles (c .before .before .args .vertices) (c .before .before .args .entries)
-sizes c = right _ _ (c .before .before .args .out) (c .before .before .args .work) (c .before .judge-size .ensures) (c .if1 .left)
+sizes : (c : tie.Else1)
+    → let a = c .before .before .args in
+    Sized mostSplitTriangles (a .vertices) (a .entries)
+sizes c =
+    let a = c .before .before .args in
+    right _ _ (a .out) (a .work) (c .before .judge-size .ensures) (c .if1 .left)
 
 judge-size-requires : tie.Need-judge-size-requires
 judge-size-requires c κs = search needs

@@ -3,6 +3,9 @@ use borrow.Author.Needs.{needs}
 use Rattle.flatcarol.proofs.work.clear_all.Statement.{statement}
 use Rattle.flatcarol.proofs.work.clear_all.Tie as tie
 
+returns : tie.Need-returns
+returns c = cc
+
 clear-requires : tie.Need-clear-requires
 clear-requires c κs = search needs
 
@@ -44,9 +47,6 @@ same-length-6 c = search needs
 
 same-length-7 : tie.Need-same-length-7
 same-length-7 c = search needs
-
-returns : tie.Need-returns
-returns c = cc
 
 pub clear-all-spec : {M : Type 1} → statement M
 clear-all-spec =

@@ -1,0 +1,168 @@
+// Tries the public call `flatcarol_split`: small meshes whose splitting is written out by hand, and each refusal that
+// it gives. For each it prints the answer (refusal, place, vertices, triangles), the corners of the triangles written,
+// and then the first entry of the output that was not to be written (7 as it was lent) and the sum of the work buffers.
+use flatcarol::calls::flatcarol_split;
+use io::print_decimal;
+use io::write_all;
+use std::num::wrapping_add_u64;
+ghost use Prim.Native.Nat.{_≤_};
+
+// The entries of the output that are lent, one more than a tetrahedron needs.
+const OUT: usize = 49;
+
+// The entries of each work buffer that are lent.
+const WORK: usize = 32;
+
+fn main() {
+    // accepted: one triangle, three triangles on one edge, a tetrahedron
+    try_split(3, &[0, 1, 2], OUT, WORK);
+    try_split(5, &[0, 1, 2, 0, 1, 3, 0, 1, 4], OUT, WORK);
+    try_split(4, &[0, 1, 2, 0, 3, 1, 0, 2, 3, 1, 3, 2], OUT, WORK);
+    // 2: a list of four entries; 3: an empty one
+    try_split(3, &[0, 1, 2, 0], OUT, WORK);
+    try_split(0, &[], OUT, WORK);
+    // 4: a vertex or a triangle too many
+    try_split(32768, &[0, 1, 2], OUT, WORK);
+    try_split(65542, &[0, 1, 2], OUT, WORK);
+    try_split(3, &[0; 12291], OUT, WORK);
+    // 5: the output or a work buffer one entry too short
+    try_split(3, &[0, 1, 2], 11, WORK);
+    try_split(3, &[0, 1, 2], OUT, 5);
+    // 6: a corner not below V, also behind two equal corners, which come later in the order
+    try_split(2, &[0, 1, 2], OUT, WORK);
+    try_split(0, &[0, 1, 2], OUT, WORK);
+    try_split(3, &[0, 0, 1, 0, 1, 3], OUT, WORK);
+    // 7: two equal corners
+    try_split(2, &[0, 0, 1], OUT, WORK);
+    try_split(3, &[0, 1, 2, 1, 2, 1], OUT, WORK);
+    // 8: the same triangle again, turned over, and the later of two pairs
+    try_split(3, &[0, 1, 2, 0, 2, 1], OUT, WORK);
+    try_split(4, &[0, 1, 2, 0, 1, 3, 3, 1, 0, 2, 1, 0], OUT, WORK);
+    // 9: a vertex in no triangle
+    try_split(4, &[0, 1, 2], OUT, WORK);
+    // 10: triangles that touch at a point
+    try_split(5, &[0, 1, 2, 0, 3, 4], OUT, WORK);
+}
+
+// Lends `room` entries of an output full of 7 and `work` entries of seven work buffers full of 9.
+fn try_split(vertices: u64, list: &[u16], room: usize, work: usize)
+    requires { ⌜ room ≤ 49 ⌝ }
+    requires { ⌜ work ≤ 32 ⌝ }
+{
+    let mut out: [u16; 49] = [7; 49];
+    let mut work1: [u16; 32] = [9; 32];
+    let mut work2: [u16; 32] = [9; 32];
+    let mut work3: [u16; 32] = [9; 32];
+    let mut work4: [u16; 32] = [9; 32];
+    let mut work5: [u16; 32] = [9; 32];
+    let mut work6: [u16; 32] = [9; 32];
+    let mut work7: [u16; 32] = [9; 32];
+    split_and_print(
+        vertices,
+        list,
+        &mut out[..room],
+        &mut work1[..work],
+        &mut work2[..work],
+        &mut work3[..work],
+        &mut work4[..work],
+        &mut work5[..work],
+        &mut work6[..work],
+        &mut work7[..work],
+    );
+}
+
+// Calls `flatcarol_split` and prints what comes of it.
+fn split_and_print(
+    vertices: u64,
+    list: &[u16],
+    out: &mut [u16],
+    work1: &mut [u16],
+    work2: &mut [u16],
+    work3: &mut [u16],
+    work4: &mut [u16],
+    work5: &mut [u16],
+    work6: &mut [u16],
+    work7: &mut [u16],
+) {
+    let answer = flatcarol_split(
+        vertices,
+        list,
+        out,
+        work1,
+        work2,
+        work3,
+        work4,
+        work5,
+        work6,
+        work7,
+    );
+    print_line(
+        &[
+            answer.refusal,
+            answer.place,
+            answer.vertices,
+            answer.triangles,
+        ],
+    );
+    let end = print_triangles(out, answer.triangles);
+    let sum = sum_of(work1, work2, work3, work4, work5, work6, work7);
+    print_line(&[entry(out, end), sum]);
+}
+
+// Prints so many triangles of `out`, or those that it has room for, a line each. Answers the index behind them.
+fn print_triangles(out: &[u16], triangles: u64) -> usize {
+    let mut end: usize = 0;
+    let mut left = triangles;
+    while end + 3 <= out.len() {
+        if left == 0 {
+            return end;
+        }
+        print_line(&[entry(out, end), entry(out, end + 1), entry(out, end + 2)]);
+        end += 3;
+        left -= 1;
+    }
+    end
+}
+
+// Prints the numbers on one line, a space between each two.
+fn print_line(numbers: &[u64]) {
+    let mut i = 0;
+    while i < numbers.len() {
+        if i != 0 {
+            write_all(1, b" ");
+        }
+        print_decimal(1, numbers[i]);
+        i += 1;
+    }
+    write_all(1, b"\n");
+}
+
+// The sum of all entries of the seven lists.
+fn sum_of(a: &[u16], b: &[u16], c: &[u16], d: &[u16], e: &[u16], f: &[u16], g: &[u16]) -> u64 {
+    let mut sum = add_all(a, 0);
+    sum = add_all(b, sum);
+    sum = add_all(c, sum);
+    sum = add_all(d, sum);
+    sum = add_all(e, sum);
+    sum = add_all(f, sum);
+    add_all(g, sum)
+}
+
+// `sum` and every entry of `list`, added up.
+fn add_all(list: &[u16], sum: u64) -> u64 {
+    let mut total = sum;
+    let mut i = 0;
+    while i < list.len() {
+        total = wrapping_add_u64(total, entry(list, i));
+        i += 1;
+    }
+    total
+}
+
+// The entry of `list` at index `i`, or 0 past its end.
+fn entry(list: &[u16], i: usize) -> u64 {
+    if i < list.len() {
+        return list[i] as u64;
+    }
+    0
+}

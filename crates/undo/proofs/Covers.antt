@@ -1,0 +1,403 @@
+-- What the tables of mates and rows say of the mesh. A half-edge has a mate exactly if its edge is regular; the mate's
+-- triangle is the other one on the edge, and its third vertex the vertex across. So the rows are those of the covering
+-- mesh.
+use Prim.Native.Nat.{ℕ, suc, _+_, _*_, _/_, _%_, _≤_, _<_}
+use native.Mathlib.Nat.{add-zero}
+use native.Mathlib.Omega.{arith}
+use mathlib.Core.Path.{_≡_, refl, sym, ap, _∙_, subst}
+use mathlib.Core.Logic.{_≢_, _⊎_, inl, inr}
+use mathlib.Core.List.{List}
+use lib.ListN.{length, take}
+use lib.Seq.{length-take-le}
+use Rattle.theory.specs.Mesh.{at, On, HasEdge, Regular, OtherwiseProper}
+use Rattle.theory.specs.Splitting.{next, firstOn}
+use Rattle.theory.specs.Reading.{Across}
+use Rattle.theory.proofs.Mesh.{regular-other, regular-only, across-edge, edge-across, on-vertex}
+use Rattle.theory.proofs.Splitting.{SameEdge, edgeNo-same}
+use Rattle.theory.proofs.Heart.{edgeNo-within}
+use Rattle.theory.proofs.Rows.{Opposite}
+use Rattle.theory.proofs.Tiles.{IsTile, Row, tile, flat, Covering, Start, beside}
+use Rattle.lists.specs.Tables.{Tabulated}
+use Rattle.lists.proofs.Lists.{by-eq, at-take}
+use Rattle.mesh.specs.Tables.{third, owner, Listed}
+use Rattle.mesh.specs.Reached.{Corners, different, equal}
+use Rattle.mesh.proofs.Firsts.{first-sameEdge, sameEdge-first}
+use Rattle.mesh.proofs.Sides.{far, corner-on, End, end, otherEnd, end-moved, sameEdge-hasEdge}
+use Rattle.mesh.proofs.Sides.{Side, edge-side, side-third}
+use Rattle.undo.specs.Tiles.{Mates, Mate, across, none, Mated, opposite, HasRow, RowOf, RowsOf}
+use Rattle.undo.specs.Tiles.{tile as hasRow, flat as hasNone}
+
+-- a mesh of F triangles, but for being connected, with its tables: first half-edges, mates, third vertices
+pub record Tabled (N F : ℕ) (T first mate thirds : List ℕ) : Type 0 where
+  pub proper : OtherwiseProper N T
+  pub whole : length T ≡ 3 * F
+  pub firsts : Tabulated (firstOn T) (3 * F) first
+  pub mated : Mated (3 * F) first mate
+  pub tabled : Tabulated (third T) (3 * F) thirds
+
+-- triangle l is the other one, beside triangle k, on the edge u-v
+pub record Beside (T : List ℕ) (k u v l : ℕ) : Type 0 where
+  pub another : l ≢ k
+  pub has : HasEdge T l u v
+  pub only : (m : ℕ) → m ≢ k → HasEdge T m u v → m ≡ l
+
+-- ---- the half-edge that ends at a corner
+
+-- The half-edge of triangle k that ends at its corner i.
+abbrev pub ending : ℕ → ℕ → ℕ
+ending k i = 3 * k + (i + 2) % 3
+
+-- it is of triangle k
+ending-triangle : (k i : ℕ) → ending k i / 3 ≡ k
+ending-triangle k i = omega arith
+
+-- and ends there
+ending-next : (k i : ℕ) → i < 3 → next (ending k i) ≡ 3 * k + i
+ending-next k i b = omega arith
+
+-- each half-edge of the triangle ends at the corner after its own
+ending-after : (k i : ℕ) → i < 3 → ending k ((i + 1) % 3) ≡ 3 * k + i
+ending-after k i b = omega arith
+
+-- The half-edge of triangle 0 that does not touch its corner i.
+abbrev pub facing : ℕ → ℕ
+facing i = suc i % 3
+
+-- it runs from the corner after i to the one before
+facing-from : (i : ℕ) → facing i ≡ (i + 1) % 3
+facing-from i = omega arith
+
+facing-to : (i : ℕ) → i < 3 → next (facing i) ≡ (i + 2) % 3
+facing-to i b = omega arith
+
+-- in triangle 0
+facing-triangle : (i : ℕ) → facing i / 3 ≡ 0
+facing-triangle i = omega arith
+
+module _ {N F : ℕ} {T first mate thirds : List ℕ} (D : Tabled N F T first mate thirds) where
+  -- ---- edges and their half-edges
+
+  -- within one triangle an edge has one half-edge
+  one-half : (g h : ℕ) → g < 3 * F → h < 3 * F → g / 3 ≡ h / 3 → at first g ≡ at first h → g ≡ h
+  one-half g h a b t e =
+      edgeNo-within N T (D .proper) g h (omega (arith, D .whole)) (omega (arith, D .whole)) t
+      (edgeNo-same N T g h (first-sameEdge T (D .firsts) g h a b e))
+
+  -- different corners of a triangle hold different vertices
+  corners-differ : (c d : ℕ) → c < 3 * F → c / 3 ≡ d / 3 → c ≢ d → at T c ≢ at T d
+  corners-differ c d b t n e = n (D .proper .different c d (omega (arith, D .whole)) (omega (arith, D .whole)) t e)
+
+  -- so the ends of a half-edge differ
+  ends-differ : (h : ℕ) → h < 3 * F → at T h ≢ at T (next h)
+  ends-differ h b = corners-differ h (next h) b (omega arith) (omega arith)
+
+  -- and its third vertex is neither of them
+  third-differs : (h : ℕ) → h < 3 * F → {v : ℕ} → End T h v → third T h ≢ v
+  third-differs h b (end e) p = corners-differ (far h) h (omega arith) (omega arith) (omega arith) (p ∙ e)
+  third-differs h b (otherEnd e) p = corners-differ (far h) (next h) (omega arith) (omega arith) (omega arith) (p ∙ e)
+
+  -- the triangle of a half-edge on the edge of h has this edge
+  half-edge : (g h : ℕ) → g < 3 * F → h < 3 * F → at first g ≡ at first h → HasEdge T (g / 3) (at T h) (at T (next h))
+  half-edge g h a b e =
+      sameEdge-hasEdge (record { whole = D .whole; inside = a; triangle = refl })
+      (first-sameEdge T (D .firsts) h g b a (sym e)) (ends-differ h b)
+
+  -- and a triangle that has the edge has a half-edge on it
+  edge-half : (h : ℕ) → h < 3 * F → {k : ℕ} → HasEdge T k (at T h) (at T (next h))
+      → (g : ℕ) × (g < 3 * F) × (g / 3 ≡ k) × (at first g ≡ at first h)
+  edge-half h b {k} e = (s .half, inside, s .triangle, same)
+    where
+      s : Side T k (at T h) (at T (next h))
+      s = edge-side e
+
+      inside : s .half < 3 * F
+      inside = omega (arith, s .inside, D .whole)
+
+      same : at first (s .half) ≡ at first h
+      same = sameEdge-first T (D .firsts) (s .half) h inside b (record { low = s .low; high = s .high })
+
+  -- ---- mates and regular edges
+
+  -- the triangles of mates are different
+  mates-apart : {h g : ℕ} → h < 3 * F → Mates (3 * F) first h g → g / 3 ≢ h / 3
+  mates-apart {h} {g} b M t = M .other (one-half g h (M .inside) b t (M .same))
+
+  -- a half-edge that has a mate is on a regular edge
+  mates-regular : {h g : ℕ} → h < 3 * F → Mates (3 * F) first h g → Regular T (at T h) (at T (next h))
+  mates-regular {h} {g} b M =
+      record {
+        one = h / 3;
+        two = g / 3;
+        differ = λ t. mates-apart b M (sym t);
+        hasOne = half-edge h h b b refl;
+        hasTwo = half-edge g h (M .inside) b (M .same);
+        others = λ k e. go (edge-half h b e);
+      }
+    where
+      go : {k : ℕ} → (f : ℕ) × (f < 3 * F) × (f / 3 ≡ k) × (at first f ≡ at first h) → (k ≡ h / 3) ⊎ (k ≡ g / 3)
+      go (f, a, t, s) = elim (M .only f a s) [
+        | inl p ↦ inl (sym t ∙ ap (λ c. c / 3) p)
+        | inr p ↦ inr (sym t ∙ ap (λ c. c / 3) p)
+      ]
+
+  -- and a half-edge on a regular edge has a mate: the half-edge of the other triangle
+  regular-mates : (h : ℕ) → h < 3 * F → Regular T (at T h) (at T (next h)) → (g : ℕ) × Mates (3 * F) first h g
+  regular-mates h b R = other (regular-other T (h / 3) _ _ R)
+    where
+      found : {l : ℕ} → l ≢ h / 3 → (g : ℕ) × (g < 3 * F) × (g / 3 ≡ l) × (at first g ≡ at first h)
+          → (g : ℕ) × Mates (3 * F) first h g
+      found n (g, a, t, s) = (
+        g,
+        record { inside = a; other = λ p. n (sym t ∙ ap (λ c. c / 3) p); same = s; only = only },
+      )
+        where
+          only : (f : ℕ) → f < 3 * F → at first f ≡ at first h → (f ≡ h) ⊎ (f ≡ g)
+          only f c q =
+              by-eq (f / 3) (h / 3)
+              (λ p. inl (one-half f h c b p q))
+              (λ p. inr (one-half f g c a
+              (regular-only T (h / 3) (f / 3) (g / 3) _ _ R (half-edge h h b b refl) (half-edge f h c b q)
+              (half-edge g h a b s) p (λ u. n (sym t ∙ u)))
+              (q ∙ sym s)))
+
+      other : (l : ℕ) × HasEdge T l (at T h) (at T (next h)) × (l ≢ h / 3) → (g : ℕ) × Mates (3 * F) first h g
+      other (l, e, n) = found n (edge-half h b e)
+
+  -- an entry below 3F is the mate
+  mate-mates : (h : ℕ) → h < 3 * F → at mate h < 3 * F → Mates (3 * F) first h (at mate h)
+  mate-mates h b = go (D .mated .entry h b)
+    where
+      go : {g : ℕ} → Mate (3 * F) first h g → g < 3 * F → Mates (3 * F) first h g
+      go (across M) l = M
+      go (none _) l = absurd (omega arith)
+
+  -- so the edges with mates in the table are the regular ones
+  pub mate-regular : (h : ℕ) → h < 3 * F → at mate h < 3 * F → Regular T (at T h) (at T (next h))
+  mate-regular h b l = mates-regular b (mate-mates h b l)
+
+  pub regular-mate : (h : ℕ) → h < 3 * F → Regular T (at T h) (at T (next h)) → at mate h < 3 * F
+  regular-mate h b R = go (D .mated .entry h b) (regular-mates h b R)
+    where
+      go : {g : ℕ} → Mate (3 * F) first h g → (f : ℕ) × Mates (3 * F) first h f → g < 3 * F
+      go (across M) _ = M .inside
+      go (none refuted) (f, M) = absurd (refuted f M)
+
+  -- ---- the triangle and the vertex across
+
+  module _ (h : ℕ) (b : h < 3 * F) (l : at mate h < 3 * F) where
+    mates : Mates (3 * F) first h (at mate h)
+    mates = mate-mates h b l
+
+    -- the mate's triangle has the edge
+    mate-edge : HasEdge T (at mate h / 3) (at T h) (at T (next h))
+    mate-edge = half-edge (at mate h) h l b (mates .same)
+
+    -- and is the only other one that has it
+    pub mate-beside : Beside T (h / 3) (at T h) (at T (next h)) (at mate h / 3)
+    mate-beside =
+        record {
+          another = mates-apart b mates;
+          has = mate-edge;
+          only = λ m n e.
+              regular-only T (h / 3) m (at mate h / 3) _ _ (mate-regular h b l) (half-edge h h b b refl) e mate-edge n
+              (mates-apart b mates);
+        }
+
+    -- its third vertex stands across the edge
+    mate-across : Across T (h / 3) (at T h) (at T (next h)) (third T (at mate h))
+    mate-across =
+        edge-across mate-edge (mates-apart b mates)
+        (corner-on (far (at mate h)) (omega (arith, D .whole)) (omega arith) refl)
+        (third-differs (at mate h) l (end-moved same (end refl)))
+        (third-differs (at mate h) l (end-moved same (otherEnd refl)))
+      where
+        same : SameEdge T h (at mate h)
+        same = first-sameEdge T (D .firsts) h (at mate h) b l (sym (mates .same))
+
+    -- and no other vertex does
+    across-mate : {w : ℕ} → Across T (h / 3) (at T h) (at T (next h)) w → w ≡ third T (at mate h)
+    across-mate {w} a = sym (side-third side (subst (λ m. On T m w) there (a .hasW)) (a .notU) (a .notV))
+      where
+        there : a .other ≡ at mate h / 3
+        there = mate-beside .only (a .other) (a .another) (across-edge (ends-differ h b) a)
+
+        same : SameEdge T (at mate h) h
+        same = first-sameEdge T (D .firsts) (at mate h) h l b (mates .same)
+
+        side : Side T (at mate h / 3) (at T h) (at T (next h))
+        side = record {
+          half = at mate h;
+          inside = omega (arith, D .whole);
+          triangle = refl;
+          low = same .low;
+          high = same .high;
+        }
+
+  -- ---- the start of a role
+
+  module _ (some : 0 < F) {owners : List ℕ} (O : Tabulated owner (3 * F) owners) (i : ℕ) (b : i < 3) where
+    -- where the side opposite corner i of triangle 0 has a mate, the mate's triangle is the other one on it
+    facing-beside : at mate (facing i) < 3 * F
+        → Beside T 0 (at T ((i + 1) % 3)) (at T ((i + 2) % 3)) (at owners (at mate (facing i)))
+    facing-beside l =
+        rw (← facing-from i, O .entry (at mate (facing i)) l)
+        (rw (facing-to i b, facing-triangle i) at (mate-beside (facing i) (omega arith) l))
+
+    -- so it is the start
+    pub mate-start : at mate (facing i) < 3 * F → Start T (suc i) (at owners (at mate (facing i)))
+    mate-start l = beside i _ b (facing-beside l .another) regular (facing-beside l .has)
+      where
+        regular : Regular T (at T ((i + 1) % 3)) (at T ((i + 2) % 3))
+        regular = rw (← facing-from i, ← facing-to i b) (mate-regular (facing i) (omega arith) l)
+
+    -- and where there is a start, the side has a mate, whose triangle is the start
+    pub start-mate : {s : ℕ} → Start T (suc i) s → (at mate (facing i) < 3 * F) × (s ≡ at owners (at mate (facing i)))
+    start-mate (beside _ s _ n R e) = (l, facing-beside l .only s n e)
+      where
+        l : at mate (facing i) < 3 * F
+        l = regular-mate (facing i) (omega arith) (rw (facing-to i b, facing-from i) R)
+
+  -- ---- tiles
+
+  module _ (k : ℕ) (l : k < F) where
+    -- the half-edges of triangle k are inside the table
+    ending-inside : (i : ℕ) → ending k i < 3 * F
+    ending-inside i = omega arith
+
+    module _ (i : ℕ) (b : i < 3) (m : at mate (ending k i) < 3 * F) where
+      -- the edge that ends at corner i is regular
+      ending-regular : Regular T (at T (ending k i)) (at T (3 * k + i))
+      ending-regular = rw (ending-next k i b) at (mate-regular (ending k i) (ending-inside i) m)
+
+      -- the triangle of the mate is the one beside
+      ending-beside : Beside T k (at T (ending k i)) (at T (3 * k + i)) (at mate (ending k i) / 3)
+      ending-beside = rw (ending-next k i b, ending-triangle k i) at (mate-beside (ending k i) (ending-inside i) m)
+
+      -- the entry of the third vertices is that of the mate
+      entry-third : opposite mate thirds k i ≡ third T (at mate (ending k i))
+      entry-third = D .tabled .entry (at mate (ending k i)) m
+
+      -- and stands opposite corner i
+      ending-opposite : Opposite T k i (opposite mate thirds k i)
+      ending-opposite =
+          rw entry-third
+          (rw (ending-next k i b, ending-triangle k i) at (mate-across (ending k i) (ending-inside i) m))
+
+      -- alone
+      opposite-ending : {w : ℕ} → Opposite T k i w → w ≡ opposite mate thirds k i
+      opposite-ending a =
+          across-mate (ending k i) (ending-inside i) m (rw (ending-next k i b, ending-triangle k i) a)
+          ∙ sym entry-third
+
+    -- a triangle that has a row is a tile
+    row-tile : HasRow F mate thirds k → IsTile T k
+    row-tile H =
+        record {
+          regular = λ i b. ending-regular i b (H .mated ((i + 2) % 3) (omega arith));
+          apart = λ i j w a b o p.
+              H .apart i j a b
+              (sym (opposite-ending i a (H .mated ((i + 2) % 3) (omega arith)) o)
+              ∙ opposite-ending j b (H .mated ((j + 2) % 3) (omega arith)) p);
+        }
+
+    -- the edges of a tile have mates
+    tile-mated : IsTile T k → (i : ℕ) → i < 3 → at mate (ending k i) < 3 * F
+    tile-mated t i b = regular-mate (ending k i) (ending-inside i) (rw (ending-next k i b) (t .regular i b))
+
+    -- so it has a row
+    pub tile-row : IsTile T k → HasRow F mate thirds k
+    tile-row t =
+        record {
+          mated = λ i b. rw (ending-after k i b) at (tile-mated t ((i + 1) % 3) (omega arith));
+          apart = λ i j a b e.
+              t .apart i j (opposite mate thirds k i) a b (ending-opposite i a (tile-mated t i a))
+              (subst (Opposite T k j) (sym e) (ending-opposite j b (tile-mated t j b)));
+        }
+
+    -- the triangles over the sides of a tile are those of the mates
+    pub tile-beside : {owners : List ℕ} → Tabulated owner (3 * F) owners → IsTile T k → (i : ℕ) → i < 3
+        → Beside T k (at T (ending k i)) (at T (3 * k + i)) (at owners (at mate (ending k i)))
+    tile-beside O t i b =
+        rw (O .entry (at mate (ending k i)) (tile-mated t i b)) (ending-beside i b (tile-mated t i b))
+
+  -- ---- the rows
+
+  module _ (rows : List ℕ) (room : 3 * F ≤ length rows) (R : RowsOf F mate thirds rows) where
+    -- the rows are as many as the triangles
+    rows-long : length (take (3 * F) rows) ≡ 3 * F
+    rows-long = length-take-le (3 * F) rows room
+
+    -- and have the entries of the buffer
+    rows-at : (k i : ℕ) → k < F → i < 3 → at (take (3 * F) rows) (3 * k + i) ≡ at rows (3 * k + i)
+    rows-at k i l b = at-take (3 * F) rows (3 * k + i) (omega arith)
+
+    -- they are the covering mesh
+    pub covering : Covering T (take (3 * F) rows)
+    covering = record { long = rows-long ∙ sym (D .whole); row = λ k l. row k (omega (arith, D .whole)) }
+      where
+        row : (k : ℕ) → k < F → Row T (take (3 * F) rows) k
+        row k l = go (R .row k l)
+          where
+            go : RowOf F mate thirds k rows → Row T (take (3 * F) rows) k
+            go (hasRow H e) =
+                tile (row-tile k l H)
+                (λ i b. rw (rows-at k i l b, e i b) (ending-opposite k l i b (H .mated ((i + 2) % 3) (omega arith))))
+            go (hasNone refuted e) =
+                flat (λ t. refuted (tile-row k l t))
+                (λ i j a b. rows-at k i l a ∙ e i a ∙ sym (e j b) ∙ sym (rows-at k j l b))
+
+    -- with three different or three equal entries in each row
+    pub rows-corners : (k : ℕ) → k < F → Corners (take (3 * F) rows) k
+    rows-corners k l = go (R .row k l)
+      where
+        go : RowOf F mate thirds k rows → Corners (take (3 * F) rows) k
+        go (hasRow H e) = different (record {
+          apart = λ i j a b s.
+              H .apart i j a b (sym (rows-at k i l a ∙ e i a) ∙ s ∙ rows-at k j l b ∙ e j b);
+        })
+        go (hasNone _ e) = equal (λ i j a b. rows-at k i l a ∙ e i a ∙ sym (e j b) ∙ sym (rows-at k j l b))
+
+    -- and its entries are vertices of the mesh
+    rows-below : (k i : ℕ) → k < F → i < 3 → at (take (3 * F) rows) (3 * k + i) < N
+    rows-below k i l b = go (R .row k l)
+      where
+        go : RowOf F mate thirds k rows → at (take (3 * F) rows) (3 * k + i) < N
+        go (hasRow H e) =
+            rw (rows-at k i l b, e i b)
+            (on-vertex (D .proper) (ending-opposite k l i b (H .mated ((i + 2) % 3) (omega arith)) .hasW))
+        go (hasNone _ e) = omega (
+          arith,
+          rows-at k i l b ∙ e i b,
+          D .proper .below (3 * k + i) (omega (arith, D .whole)),
+        )
+
+    -- so they are a list of triangles
+    pub rows-listed : 3 * F < 65536 → Listed N F (take (3 * F) rows)
+    rows-listed small =
+        record { whole = rows-long; small = small; below = λ c l. below c (omega (arith, rows-long)) }
+      where
+        below : (c : ℕ) → c < 3 * F → at (take (3 * F) rows) c < N
+        below c l =
+            let e : 3 * (c / 3) + c % 3 ≡ c = omega arith in
+            rw e at (rows-below (c / 3) (c % 3) (omega arith) (omega arith))
+
+    -- a row whose first two entries differ is a tile's
+    pub differ-tile : (k : ℕ) → k < F → at rows (3 * k) ≢ at rows (3 * k + 1) → IsTile T k
+    differ-tile k l n = go (R .row k l)
+      where
+        go : RowOf F mate thirds k rows → IsTile T k
+        go (hasRow H e) = row-tile k l H
+        go (hasNone _ e) =
+            absurd (n (rw (add-zero (3 * k)) at (e 0 (omega arith) ∙ sym (e 1 (omega arith)))))
+
+    -- and those of a tile's row differ
+    pub tile-differ : (k : ℕ) → k < F → IsTile T k → at rows (3 * k) ≢ at rows (3 * k + 1)
+    tile-differ k l t s = go (R .row k l)
+      where
+        go : RowOf F mate thirds k rows → ⊥
+        go (hasRow H e) = omega (
+          arith,
+          H .apart 0 1 (omega arith) (omega arith)
+              (sym (rw (add-zero (3 * k)) at (e 0 (omega arith))) ∙ s ∙ e 1 (omega arith)),
+        )
+        go (hasNone refuted _) = refuted (tile-row k l t)
