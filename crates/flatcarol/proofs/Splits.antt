@@ -13,11 +13,12 @@ use Rattle.theory.specs.Refusals.{Rule, Room, Short, tooShort, meshRules, Passe
 use Rattle.theory.specs.Calls as promise
 use Rattle.theory.specs.Calls.{Answer, refusal, zeros, workEntries, splitRooms, Splits}
 use Rattle.mesh.specs.Tables.{Work}
-use Rattle.mesh.specs.Judged.{Judged}
+use Rattle.mesh.specs.Judged.{Judged, sizeRules}
 use Rattle.mesh.proofs.Judgement.{judged-passed, judged-front}
-use Rattle.flatcarol.specs.Sizes.{sizeRules, splitSizeRules}
+use Rattle.mesh.proofs.Sized.{Sized, sized}
+use Rattle.flatcarol.specs.Sizes.{splitSizeRules}
 use Rattle.flatcarol.specs.Splitting.{SplitLent, SplitsMesh, refuses, accepts}
-use Rattle.flatcarol.proofs.Rules.{judged-either, judged-refused, refused-back, passed-back, Sized, sized}
+use Rattle.flatcarol.proofs.Rules.{judged-either, judged-refused, refused-back, passed-back}
 
 -- ---- seven
 

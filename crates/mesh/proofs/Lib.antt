@@ -6,3 +6,4 @@ pub mod Joins
 pub mod Twins
 pub mod Search
 pub mod Judgement
+pub mod Sized

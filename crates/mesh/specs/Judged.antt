@@ -1,12 +1,13 @@
 -- The judgement of a mesh by the rows of document 01's table of refusals.
-use Prim.Native.Nat.{ℕ, _*_, _/_, _≤_, _<_}
+use Prim.Native.Nat.{ℕ, _*_, _/_, _%_, _≤_, _<_}
 use mathlib.Core.Path.{_≡_}
+use mathlib.Core.Logic.{_≢_}
 use mathlib.Core.List.{List, [], _∷_}
 use lib.ListN.{length}
 use Rattle.theory.specs.Mesh.{at, triangles}
 use Rattle.theory.specs.Refusals.{Rule, cornerNotBelow, equalCorners}
 use Rattle.theory.specs.Refusals.{sameAsEarlier, inNoTriangle, notConnected, meshRules}
-use Rattle.theory.specs.Refusals.{Passed, Refused}
+use Rattle.theory.specs.Refusals.{noPlace, tooLarge, Passed, Refused}
 use Rattle.mesh.specs.Tables.{Work, EdgeTable}
 use Rattle.mesh.specs.Faults.{Whole}
 
@@ -14,6 +15,14 @@ use Rattle.mesh.specs.Faults.{Whole}
 pub data Judged (rules : List Rule) : ℕ → ℕ → Type 0 where
   passes : Passed rules → Judged rules 0 0
   fails : {number place : ℕ} → Refused rules number place → Judged rules number place
+
+-- The rows that look at the numbers alone, 2, 3 and 4, of a list of n entries.
+abbrev pub sizeRules : ℕ → ℕ → ℕ → List Rule
+sizeRules most N n =
+    record { number = 2; given = noPlace (n % 3 ≢ 0) }
+    ∷ record { number = 3; given = noPlace (n / 3 ≡ 0) }
+    ∷ tooLarge most N (n / 3)
+    ∷ []
 
 -- The rows that look at each triangle by itself, 6 and 7.
 abbrev pub cornerRules : ℕ → List ℕ → List Rule

@@ -8,3 +8,4 @@ pub mod faults;
 pub mod judge;
 pub mod limits;
 pub mod reach;
+pub mod size;

@@ -1,4 +1,4 @@
-// The sizes that meshes may have: nowhere else in the code stands one of these numbers.
+// The sizes that document 01 names: nowhere else in the code stands one of these numbers.
 
 pub struct Limits {}
 
@@ -9,4 +9,12 @@ impl Limits {
     pub const SPLIT_TRIANGLES: u64 = 4_096;
     // The most vertices of a mesh.
     pub const VERTICES: u64 = 32_767;
+    // The most levels that are undone in one call.
+    pub const LEVELS: u64 = 7;
+    // What the program has room for, and the most bytes that it reads.
+    pub const PROGRAM_TRIANGLES: u64 = 1_024;
+
+    pub const PROGRAM_VERTICES: u64 = 1_026;
+
+    pub const PROGRAM_BYTES: u64 = 16_384;
 }

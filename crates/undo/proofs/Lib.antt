@@ -11,3 +11,5 @@ pub mod CoarseEdges
 pub mod Lent
 pub mod Sound
 pub mod Complete
+pub mod Stages
+pub mod Mapped

@@ -5,3 +5,5 @@ pub mod Runs
 pub mod Selected
 pub mod Claims
 pub mod Compared
+pub mod Role
+pub mod Maps

@@ -3,6 +3,7 @@
 // It takes time linear in vertices and triangles, and assumes nothing.
 pub mod claims;
 pub mod compare;
+pub mod role;
 pub mod select;
 pub mod start;
 pub mod tiles;

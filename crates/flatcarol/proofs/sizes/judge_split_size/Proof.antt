@@ -1,4 +1,4 @@
--- `flatcarol::sizes::judge_split_size` meets its contract: 2 to 4 by `judge_size`, and then the two tests of 5.
+-- `flatcarol::sizes::judge_split_size` meets its contract: 2 to 4 by `judge_size_to_split`, and then the two tests of 5.
 use Prim.Native.Nat.{ℕ, _+_, _*_, _/_, _≤_, _<_}
 use native.Mathlib.Omega.{arith}
 use mathlib.Core.Path.{_≡_}
@@ -7,10 +7,10 @@ use mathlib.Core.List.{[], _∷_}
 use borrow.Author.Needs.{needs}
 use Rattle.theory.specs.Limits.{mostSplitTriangles}
 use Rattle.theory.specs.Refusals.{Short}
-use Rattle.mesh.specs.Judged.{Judged}
+use Rattle.mesh.specs.Judged.{Judged, sizeRules}
 use Rattle.mesh.proofs.Judgement.{judged-none, judged-front, judged-back}
-use Rattle.flatcarol.specs.Sizes.{sizeRules, splitSizeRules}
-use Rattle.flatcarol.proofs.Rules.{judged-at-0, judged-not, Sized, sized, size-passed}
+use Rattle.mesh.proofs.Sized.{judged-at-0, judged-not, Sized, sized, size-passed}
+use Rattle.flatcarol.specs.Sizes.{splitSizeRules}
 use Rattle.flatcarol.proofs.sizes.judge_split_size.Statement.{statement}
 use Rattle.flatcarol.proofs.sizes.judge_split_size.Tie as tie
 
@@ -52,20 +52,20 @@ sizes : (c : tie.Else1)
     Sized mostSplitTriangles (a .vertices) (a .entries)
 sizes c =
     let a = c .before .before .args in
-    right _ _ (a .out) (a .work) (c .before .judge-size .ensures) (c .if1 .left)
+    right _ _ (a .out) (a .work) (c .before .judge-size-to-split .ensures) (c .if1 .left)
 
-judge-size-requires : tie.Need-judge-size-requires
-judge-size-requires c κs = search needs
+judge-size-to-split-requires : tie.Need-judge-size-to-split-requires
+judge-size-to-split-requires c κs = search needs
 
 returns : tie.Need-returns
-returns c = judged-front _ (c .before .judge-size .ensures) (c .if1 .taken)
+returns c = judged-front _ (c .before .judge-size-to-split .ensures) (c .if1 .taken)
 
 mul-if2 : tie.Need-mul-if2
 mul-if2 c = omega (arith, sizes c)
 
 returns-2 : tie.Need-returns-2
 returns-2 c =
-    short-output _ _ _ (c .before .before .before .args .work) (c .before .before .judge-size .ensures)
+    short-output _ _ _ (c .before .before .before .args .work) (c .before .before .judge-size-to-split .ensures)
     (c .before .if1 .left) (c .if2 .taken)
 
 mul-if3 : tie.Need-mul-if3
@@ -76,15 +76,15 @@ add-if3 c = omega (arith, sizes (c .before))
 
 returns-3 : tie.Need-returns-3
 returns-3 c =
-    short-work _ _ (c .before .before .before .before .args .out) _ (c .before .before .before .judge-size .ensures)
+    short-work _ _ (c .before .before .before .before .args .out) _ (c .before .before .before .judge-size-to-split .ensures)
     (c .before .before .if1 .left) (c .if3 .taken)
 
 returns-4 : tie.Need-returns-4
 returns-4 c =
-    long _ _ _ _ (c .before .before .before .judge-size .ensures) (c .before .before .if1 .left)
+    long _ _ _ _ (c .before .before .before .judge-size-to-split .ensures) (c .before .before .if1 .left)
     (c .before .if2 .left) (c .if3 .left)
 
 pub judge-split-size-spec : {M : Type 1} → statement M
 judge-split-size-spec =
     tie.close
-    (tie.spec judge-size-requires returns mul-if2 returns-2 mul-if3 add-if3 returns-3 returns-4)
+    (tie.spec judge-size-to-split-requires returns mul-if2 returns-2 mul-if3 add-if3 returns-3 returns-4)

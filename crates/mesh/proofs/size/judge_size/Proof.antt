@@ -1,11 +1,11 @@
--- `flatcarol::sizes::judge_size` meets its contract: each test is a row's condition.
+-- `mesh::size::judge_size` meets its contract: each test is a row's condition.
 use native.Mathlib.Omega.{arith}
 use mathlib.Core.Path.{sym}
 use mathlib.Core.Logic.{inl, inr, ⊎-elim}
 use Rattle.mesh.proofs.Judgement.{judged-none}
-use Rattle.flatcarol.proofs.Rules.{judged-at-0, judged-not}
-use Rattle.flatcarol.proofs.sizes.judge_size.Statement.{statement}
-use Rattle.flatcarol.proofs.sizes.judge_size.Tie as tie
+use Rattle.mesh.proofs.Sized.{judged-at-0, judged-not}
+use Rattle.mesh.proofs.size.judge_size.Statement.{statement}
+use Rattle.mesh.proofs.size.judge_size.Tie as tie
 
 returns : tie.Need-returns
 returns c = judged-at-0 (c .if1 .taken)

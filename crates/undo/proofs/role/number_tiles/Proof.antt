@@ -1,0 +1,279 @@
+-- `undo::role::number_tiles` meets its contract: the tables of the coarse mesh are made one after the other, each from
+-- the ones before, in the two work buffers.
+use native.Mathlib.Omega.{arith}
+use Prim.Native.Nat.{ℕ, _+_, _*_, _≤_, _<_}
+use mathlib.Core.Path.{_≡_, _∙_, sym}
+use mathlib.Core.List.{List, _++_}
+use lib.ListN.{length, take, drop, replicate}
+use lib.Seq.{length-take-le}
+use borrow.Author.Needs.{needs}
+use Rattle.theory.specs.Mesh.{at}
+use Rattle.theory.proofs.Counting.{count-le}
+use Rattle.lists.specs.Keys.{KeysLent}
+use Rattle.lists.specs.Marks.{RanksOf}
+use Rattle.lists.specs.Tables.{Tabulated}
+use Rattle.lists.proofs.Lists.{at-take, at-filled, length-filled}
+use Rattle.lists.proofs.Marks.{total-le}
+use Rattle.mesh.specs.Faults.{MarksLent, UsedMark, used, unused, UsedMarks}
+use Rattle.split.specs.Numbers.{leads, NumberLent, Numbered}
+use Rattle.undo.specs.Selected.{FirstsLent, FirstsOf}
+use Rattle.undo.specs.Role.{CoarseTables, NumberTilesLent, even, odd}
+use Rattle.undo.proofs.role.number_tiles.Statement.{statement}
+use Rattle.undo.proofs.role.number_tiles.Tie as tie
+
+-- the marks of what stands among the first n entries are those of what stands in the list's front
+used-take : {N n : ℕ} {keys marks : List ℕ} → UsedMarks N (take n keys) n marks → UsedMarks N keys n marks
+used-take {N} {n} {keys} {marks} U = record { mark = λ v l. whole v (U .mark v l) }
+  where
+    whole : (v : ℕ) {m : ℕ} → UsedMark (take n keys) n v m → UsedMark keys n v m
+    whole v (used c l e) = used c l (sym (at-take n keys c l) ∙ e)
+    whole v (unused none) = unused (λ c l e. none c l (at-take n keys c l ∙ e))
+
+-- there are no more edges than half-edges
+edges-le : {M n E : ℕ} {first numbers : List ℕ} → Numbered M n first E numbers → E ≤ n
+edges-le {n = n} {first = first} D = omega (arith, D .total, count-le (leads first) n)
+
+module _ {N F n : ℕ} {first owners marks kept coarse₀ numbers₀ rank₀ table₀ : List ℕ}
+    (L : NumberTilesLent N F n first owners marks kept coarse₀ numbers₀ rank₀ table₀) where
+  -- what `mark_used` requires, once the table is cleared
+  markable : {table : List ℕ} → table ≡ replicate N 0 ++ drop N table₀ → MarksLent N n (take (3 * n) kept) table
+  markable e = rw e (record {
+    listed = record { whole = whole; small = omega (arith, L .small, L .quarter); below = below };
+    room = omega (arith, length-filled N 0 table₀ (omega (arith, L .tableRoom)), L .tableRoom);
+    clear = at-filled N 0 table₀;
+  })
+    where
+      whole : length (take (3 * n) kept) ≡ 3 * n
+      whole = length-take-le (3 * n) kept (L .keptRoom)
+
+      below : (c : ℕ) → c < length (take (3 * n) kept) → at (take (3 * n) kept) c < N
+      below c l =
+          let b : c < 3 * n = omega (arith, whole) in
+          omega (arith, at-take (3 * n) kept c b, L .below c b)
+
+  -- what `gather` requires
+  gatherable : {rank : List ℕ} → length rank ≡ length rank₀ → KeysLent (3 * n) kept rank coarse₀
+  gatherable s = record {
+    keyed = L .keptRoom;
+    inside = λ p l. omega (arith, L .below p l, L .rankRoom);
+    valued = L .coarseRoom;
+  }
+
+  -- what `selected_firsts` requires
+  firstable : {m : ℕ} {tile table : List ℕ} → length tile ≡ length rank₀ → length table ≡ length table₀
+      → RanksOf F marks m tile → FirstsLent F first owners marks tile table
+  firstable s t R = record {
+    small = omega (arith, L .small);
+    firstRoom = L .firstRoom;
+    ownerRoom = L .ownersRoom;
+    marksRoom = L .marksRoom;
+    tileRoom = omega (arith, L .rankRoom);
+    outRoom = omega (arith, L .tableRoom);
+    within = λ h l. omega (arith, L .firstWithin h l);
+    owned = L .owned;
+    ranked = R .entry;
+  }
+
+  -- the tables of the coarse mesh
+  tables : {M m : ℕ} {keptMarks rank coarse tile firstC : List ℕ}
+      → UsedMarks N (take (3 * n) kept) (3 * n) keptMarks → RanksOf N keptMarks M rank
+      → length coarse ≡ length coarse₀ → Tabulated (λ p. at rank (at kept p)) (3 * n) coarse
+      → RanksOf F marks m tile → FirstsOf F first owners marks tile firstC
+      → CoarseTables N F n first owners marks kept M coarse firstC
+  tables {keptMarks = keptMarks} {rank} {tile = tile} U R s C Q O = record {
+    keptMarks = keptMarks;
+    rank = rank;
+    tile = tile;
+    keeps = used-take U;
+    ranks = R;
+    room = omega (arith, L .coarseRoom);
+    entries = C;
+    tiles = record { entry = Q .entry; all = L .total };
+    firsts = O;
+  }
+
+  module _ {M : ℕ} {coarse firstC : List ℕ} (B : CoarseTables N F n first owners marks kept M coarse firstC) where
+    -- what `number_edges` requires
+    numberable : length firstC ≡ length table₀ → NumberLent M (3 * n) firstC numbers₀
+    numberable s = record {
+      small = omega (arith, total-le (B .ranks), L .small, L .quarter);
+      firstRoom = omega (arith, L .tableRoom, L .quarter);
+      numbersRoom = L .numbersRoom;
+      within = L .ordered M coarse firstC B .within;
+      own = L .ordered M coarse firstC B .own;
+    }
+
+    -- vertices and edges together fit
+    sum-fits : {E : ℕ} {numbers : List ℕ} → Numbered M (3 * n) firstC E numbers → M + E < 65536
+    sum-fits D = omega (arith, edges-le D, total-le (B .ranks), L .small, L .quarter)
+
+-- ---- from each call to the one before
+
+abbrev entry : tie.After-fill → tie.Start
+entry c = c .before .before .before .before .before .before .before .before .before .before
+
+abbrev clearing : tie.After-mark-used → tie.After-fill
+clearing c = c .before .before .before .before .before
+
+abbrev marking : tie.After-ranks → tie.After-mark-used
+marking c = c .before .before .before .before .before
+
+abbrev ranking : tie.After-gather → tie.After-ranks
+ranking c = c .before .before .before .before .before
+
+abbrev gathering : tie.After-ranks2 → tie.After-gather
+gathering c = c .before .before .before .before
+
+abbrev tiling : tie.After-selected-firsts → tie.After-ranks2
+tiling c = c .before .before .before .before .before
+
+abbrev origin : tie.After-selected-firsts → tie.Start
+origin c = entry (clearing (marking (ranking (gathering (tiling c)))))
+
+abbrev selecting : tie.After-number-edges → tie.After-selected-firsts
+selecting c = c .before .before .before .before .before
+
+-- ---- what the calls have made
+
+-- the tables of the coarse mesh
+made : (c : tie.After-selected-firsts)
+    → CoarseTables (origin c .args .vertices) (origin c .args .triangles) (origin c .args .count)
+    (origin c .args .first .now) (origin c .args .owner .now) (origin c .args .marks .now) (origin c .args .kept .now)
+    (ranking (gathering (tiling c)) .ranks .result) (gathering (tiling c) .gather .last .1 .1 .1 .0)
+    (c .selected-firsts .last .1 .1 .1 .1 .1 .0)
+made c =
+    let t = tiling c in
+    let g = gathering t in
+    let r = ranking g in
+    let m = marking r in
+    tables (entry (clearing m) .pre) (m .mark-used .ensures) (r .ranks .ensures) (g .gather .kept .1 .1 .1 .0)
+    (g .gather .ensures) (t .ranks2 .ensures) (c .selected-firsts .ensures)
+
+-- the table of first half-edges is as long as at first
+table-length : (c : tie.After-selected-firsts)
+    → length (c .selected-firsts .last .1 .1 .1 .1 .1 .0) ≡ length (origin c .args .table .now)
+table-length c =
+    let m = marking (ranking (gathering (tiling c))) in
+    c .selected-firsts .kept .1 .1 .1 .1 .1 .0 ∙ m .mark-used .kept .1 .1 .1 .0 ∙ clearing m .fill .kept .0
+
+-- ---- the answers
+
+mul-halves : tie.Need-mul-halves
+mul-halves c = search needs
+
+fill-requires : tie.Need-fill-requires
+fill-requires c κs = search needs
+
+slice-aggregate-mark-used : tie.Need-slice-aggregate-mark-used
+slice-aggregate-mark-used c = sym (length-take-le _ _ (entry (c .before .before .before) .pre .keptRoom))
+
+mark-used-requires : tie.Need-mark-used-requires
+mark-used-requires c κs =
+    let f = c .before .before .before .before in
+    markable (entry f .pre) (f .fill .ensures)
+
+ranks-requires : tie.Need-ranks-requires
+ranks-requires c κs = search needs
+
+gather-requires : tie.Need-gather-requires
+gather-requires c κs =
+    let r = c .before .before .before .before in
+    gatherable (entry (clearing (marking r)) .pre) (r .ranks .kept .1 .1 .0)
+
+ranks-requires-2 : tie.Need-ranks-requires-2
+ranks-requires-2 c κs = search needs
+
+selected-firsts-requires : tie.Need-selected-firsts-requires
+selected-firsts-requires c κs =
+    let t = c .before .before .before .before in
+    let r = ranking (gathering t) in
+    let m = marking r in
+    firstable (entry (clearing m) .pre) (t .ranks2 .kept .1 .1 .0 ∙ r .ranks .kept .1 .1 .0)
+    (m .mark-used .kept .1 .1 .1 .0 ∙ clearing m .fill .kept .0) (t .ranks2 .ensures)
+
+number-edges-requires : tie.Need-number-edges-requires
+number-edges-requires c κs =
+    let o = c .before .before .before .before in
+    numberable (origin o .pre) (made o) (table-length o)
+
+add-if1 : tie.Need-add-if1
+add-if1 c =
+    let o = selecting (c .before .before) in
+    omega (arith, sum-fits (origin o .pre) (made o) (c .before .before .number-edges .ensures))
+
+add-result : tie.Need-add-result
+add-result c = omega (arith, origin (selecting (c .before .before .before)) .pre .small)
+
+same-length : tie.Need-same-length
+same-length c = search needs
+
+same-length-2 : tie.Need-same-length-2
+same-length-2 c = search needs
+
+same-length-3 : tie.Need-same-length-3
+same-length-3 c = search needs
+
+same-length-4 : tie.Need-same-length-4
+same-length-4 c = table-length (selecting (c .before .before .before))
+
+returns : tie.Need-returns
+returns c =
+    let d = c .before .before .before in
+    record {
+      vertices = _;
+      edges = _;
+      firstC = _;
+      tables = made (selecting d);
+      numbered = d .number-edges .ensures;
+      answers = odd (c .if1 .taken);
+    }
+
+same-length-5 : tie.Need-same-length-5
+same-length-5 c = search needs
+
+same-length-6 : tie.Need-same-length-6
+same-length-6 c = search needs
+
+same-length-7 : tie.Need-same-length-7
+same-length-7 c = search needs
+
+same-length-8 : tie.Need-same-length-8
+same-length-8 c = table-length (selecting (c .before .before .before))
+
+returns-2 : tie.Need-returns-2
+returns-2 c =
+    let d = c .before .before .before in
+    record {
+      vertices = _;
+      edges = _;
+      firstC = _;
+      tables = made (selecting d);
+      numbered = d .number-edges .ensures;
+      answers = even (c .if1 .left);
+    }
+
+pub number-tiles-spec : {M : Type 1} → statement M
+number-tiles-spec =
+    tie.close
+    (tie.spec
+    mul-halves
+    fill-requires
+    slice-aggregate-mark-used
+    mark-used-requires
+    ranks-requires
+    gather-requires
+    ranks-requires-2
+    selected-firsts-requires
+    number-edges-requires
+    add-if1
+    add-result
+    same-length
+    same-length-2
+    same-length-3
+    same-length-4
+    returns
+    same-length-5
+    same-length-6
+    same-length-7
+    same-length-8
+    returns-2)
