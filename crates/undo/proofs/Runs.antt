@@ -1,21 +1,20 @@
 -- Runs of entries, one for each marked triangle, at the place of its rank: what a run of stores leaves, what is stored
 -- and counted for one triangle, and what stands there after the first k triangles.
 use Prim.Native.Nat.{ℕ, zero, suc, _+_, _*_, _≤_, _<_}
-use native.Mathlib.Nat.{add-zero, mul-suc, mul-le-mul-left, not-suc-le-zero}
-use native.Mathlib.Numerals.{add-one, add-two, add-three}
+use native.Mathlib.Nat.{add-zero, mul-suc, mul-le-mul-left}
 use native.Mathlib.Omega.{arith}
 use mathlib.Core.Path.{_≡_, _∙_, refl}
 use mathlib.Core.Logic.{_≢_}
 use mathlib.Core.Bool.{Bool}
-use mathlib.Core.List.{List, [], _∷_}
+use mathlib.Core.List.{List}
 use lib.Dec.{T}
-use lib.ListN.{length, length-set, set}
+use lib.ListN.{length}
 use lib.Seq.{sets, length-sets}
 use Rattle.theory.specs.Mesh.{at}
 use Rattle.theory.specs.Counting.{count}
 use Rattle.theory.proofs.Counting.{count-grows}
 use Rattle.lists.specs.Marks.{marked}
-use Rattle.lists.proofs.Lists.{by-eq, at-set-same, at-set-other}
+use Rattle.lists.proofs.Lists.{by-eq}
 use Rattle.lists.proofs.Marks.{entry-marked, bitOf-mark}
 use Rattle.lists.proofs.Stores.{at-sets, at-sets-other}
 use Rattle.undo.specs.Runs.{threeOf, Stored, stored, spared, Counted}

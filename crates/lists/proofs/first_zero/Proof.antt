@@ -1,7 +1,7 @@
 -- `lists::first_zero` meets its contract. The loop's invariant: no entry before i is 0. The measure is what is left of
 -- n.
 use native.Mathlib.Omega.{arith}
-use Prim.Native.Nat.{ℕ, _+_, _-_, _≤_, _<_}
+use Prim.Native.Nat.{ℕ, _-_, _≤_, _<_}
 use mathlib.Core.Path.{_≡_}
 use borrow.Author.Count.{below-more}
 use lib.ListN.{length}

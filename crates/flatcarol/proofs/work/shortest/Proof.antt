@@ -1,5 +1,4 @@
 -- `flatcarol::work::shortest` meets its contract: six calls of `shorter`.
-use mathlib.Core.Path.{_≡_}
 use borrow.Author.Needs.{needs}
 use Rattle.flatcarol.proofs.work.shortest.Statement.{statement}
 use Rattle.flatcarol.proofs.work.shortest.Tie as tie

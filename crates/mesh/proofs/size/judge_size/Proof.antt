@@ -1,6 +1,5 @@
 -- `mesh::size::judge_size` meets its contract: each test is a row's condition.
 use native.Mathlib.Omega.{arith}
-use mathlib.Core.Path.{sym}
 use mathlib.Core.Logic.{inl, inr, ⊎-elim}
 use Rattle.mesh.proofs.Judgement.{judged-none}
 use Rattle.mesh.proofs.Sized.{judged-at-0, judged-not}
