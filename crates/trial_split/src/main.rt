@@ -1,6 +1,7 @@
 // Tries the public call `flatcarol_split`: small meshes whose splitting is written out by hand, and each refusal that
 // it gives. For each it prints the answer (refusal, place, vertices, triangles), the corners of the triangles written,
-// and then the first entry of the output that was not to be written (7 as it was lent) and the sum of the work buffers.
+// and then the first entry of the output that was not to be written (7 as it was lent) and the sum of the work
+// buffers.
 use flatcarol::calls::flatcarol_split;
 use io::print_decimal;
 use io::write_all;

@@ -2,6 +2,7 @@
 pub mod Runs
 pub mod Mates
 pub mod Covers
+pub mod Covered
 pub mod Threes
 pub mod Starts
 pub mod Begins
@@ -13,3 +14,5 @@ pub mod Sound
 pub mod Complete
 pub mod Stages
 pub mod Mapped
+pub mod Tries
+pub mod Least

@@ -1,5 +1,6 @@
 -- What the tables of an undo hold.
 pub mod Tiles
+pub mod Cover
 pub mod Starts
 pub mod Runs
 pub mod Selected
@@ -7,3 +8,5 @@ pub mod Claims
 pub mod Compared
 pub mod Role
 pub mod Maps
+pub mod Tried
+pub mod Least

@@ -3,7 +3,9 @@
 // It takes time linear in vertices and triangles, and assumes nothing.
 pub mod claims;
 pub mod compare;
+pub mod cover;
 pub mod role;
+pub mod roles;
 pub mod select;
 pub mod start;
 pub mod tiles;

@@ -16,10 +16,13 @@ use mesh::faults::mark_used;
 use mesh::reach::reach;
 use split::number_edges;
 use split::write_fours;
+ghost use mathlib.Core.Path.{_≡_};
+ghost use mathlib.Core.Bool.{false};
 ghost use Rattle.undo.specs.Starts.{startOf};
 ghost use Rattle.undo.specs.Role.{FindLent, TilesFound, NumberTilesLent, CoarseNumbered};
 ghost use Rattle.undo.specs.Maps.{VerticesLent, VerticesMapped, TrianglesLent, TrianglesMapped};
 ghost use Rattle.undo.specs.Maps.{AllLent, AllCompared};
+ghost use Rattle.undo.specs.Tried.{RoleLent, TriedRole};
 
 // Marks the tiles that are reached from the start of a role, and puts their rows one after the other into `kept`.
 // Answers how many they are, or 0 where the role has no start or they are not a quarter of the triangles.
@@ -152,4 +155,104 @@ pub fn compare_all(
 {
     write_fours(&coarse[..3 * count], count, numbers, splitting);
     compare(triangles, list, vertices, faces, &splitting[..12 * count])
+}
+
+// What a role comes to: whether it has a reading, and if so how many vertices and triangles the coarse mesh has.
+pub struct Tried {
+    pub found: bool,
+    pub vertices: usize,
+    pub triangles: usize,
+}
+
+// Tries a role. Where it has a reading, the coarse mesh stands in `coarse`, the vertex map in `map` and the triangle
+// map in `faces`; otherwise these hold what they please.
+pub fn try_role(
+    role: usize,
+    vertices: usize,
+    triangles: usize,
+    list: &[u16],
+    mate: &[u16],
+    rows: &[u16],
+    first: &[u16],
+    link: &[u16],
+    owner: &[u16],
+    marks: &mut [u16],
+    coarse: &mut [u16],
+    numbers: &mut [u16],
+    map: &mut [u16],
+    faces: &mut [u16],
+    table: &mut [u16],
+) -> Tried
+    requires { ⌜ RoleLent role vertices triangles (now list) (now mate) (now rows) (now first) (now link) (now owner)
+        (now marks) (now coarse) (now numbers) (now map) (now faces) (now table) ⌝ }
+    ensures { λ r. ⌜ TriedRole role vertices triangles (now (list .entry)) (now (coarse .exit)) (now (map .exit))
+        (now (faces .exit)) (r .found) (r .vertices) (r .triangles) ⌝ }
+{
+    let count = find_tiles(
+        role,
+        triangles,
+        mate,
+        rows,
+        first,
+        link,
+        owner,
+        marks,
+        faces,
+        map,
+        table,
+    );
+    if count == 0 {
+        return untried();
+    }
+    let kept = number_tiles(
+        vertices,
+        triangles,
+        count,
+        first,
+        owner,
+        marks,
+        faces,
+        coarse,
+        numbers,
+        map,
+        table,
+    );
+    if vertices < kept {
+        return untried();
+    }
+    if !map_vertices(
+        triangles,
+        count,
+        list,
+        marks,
+        faces,
+        coarse,
+        numbers,
+        map,
+        table,
+    ) {
+        return untried();
+    }
+    if !map_triangles(triangles, mate, owner, marks, faces, table) {
+        return untried();
+    }
+    if !compare_all(triangles, count, list, coarse, numbers, map, faces, table) {
+        return untried();
+    }
+    Tried {
+        found: true,
+        vertices: kept,
+        triangles: count,
+    }
+}
+
+// No reading.
+fn untried() -> Tried
+    ensures { λ r. ⌜ r .found ≡ false ⌝ }
+{
+    Tried {
+        found: false,
+        vertices: 0,
+        triangles: 0,
+    }
 }

@@ -1,4 +1,4 @@
--- `flatcarol::sizes::judge_split_size` meets its contract: 2 to 4 by `judge_size_to_split`, and then the two tests of 5.
+-- `flatcarol::sizes::judge_split_size` meets its contract: 2 to 4 by `judge_size_to_split`, then the two tests of 5.
 use Prim.Native.Nat.{ℕ, _+_, _*_, _/_, _≤_, _<_}
 use native.Mathlib.Omega.{arith}
 use mathlib.Core.Path.{_≡_}
@@ -76,7 +76,8 @@ add-if3 c = omega (arith, sizes (c .before))
 
 returns-3 : tie.Need-returns-3
 returns-3 c =
-    short-work _ _ (c .before .before .before .before .args .out) _ (c .before .before .before .judge-size-to-split .ensures)
+    let judged = c .before .before .before in
+    short-work _ _ (judged .before .args .out) _ (judged .judge-size-to-split .ensures)
     (c .before .before .if1 .left) (c .if3 .taken)
 
 returns-4 : tie.Need-returns-4

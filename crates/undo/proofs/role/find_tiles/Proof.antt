@@ -159,9 +159,12 @@ returns-3 c =
     let s = c .before .before .before in
     let r = marked-by s in
     let e = started r in
-    quarter (gathered (entry (e .before) .pre) (entry (e .before) .args .role) (e .before .start .ensures) (e .if1 .left)
-    (r .reach .ensures) (s .select .ensures)) (c .if2 .left)
-    (let some = entry (e .before) .pre .some in omega (arith, c .if2 .left))
+    let a = entry (e .before) in
+    quarter
+    (gathered (a .pre) (a .args .role) (e .before .start .ensures) (e .if1 .left) (r .reach .ensures)
+    (s .select .ensures))
+    (c .if2 .left)
+    (let some = a .pre .some in omega (arith, c .if2 .left))
 
 pub find-tiles-spec : {M : Type 1} → statement M
 find-tiles-spec =
