@@ -1,51 +1,46 @@
-// Links the library's archive, and has rt make it where it is missing.
+// Links the library's archive for this machine, and has it made where it is missing.
 use std::env;
 use std::fs;
 use std::path::{Path, PathBuf};
 use std::process::{exit, Command};
 use std::time::SystemTime;
 
-const MAKE: &str = "rt staticlib flatcarol";
+const ARCHIVE: &str = "target/bench/libflatcarol.a";
+const MAKE: &str = "bench/archive";
 
 fn main() {
     let root = PathBuf::from(env::var("CARGO_MANIFEST_DIR").unwrap()).join("..");
-    let folder = root.join("target/staticlib");
-    let archive = folder.join("libflatcarol.a");
+    let archive = root.join(ARCHIVE);
     println!("cargo:rerun-if-changed={}", archive.display());
     println!("cargo:rerun-if-changed={}", root.join("crates").display());
 
-    // The linker would only say that a file is of the wrong format.
-    let machine = env::var("CARGO_CFG_TARGET_ARCH").unwrap();
-    if machine != "x86_64" {
-        fail(&format!("rt compiles the library for x86-64 alone, and this build is for {machine}: run it on an x86-64 machine"));
-    }
     if !archive.exists() {
         make(&root);
     }
     if !archive.exists() {
-        fail(&format!("'{MAKE}' ended well and yet {} is missing", archive.display()));
+        fail(&format!("'{MAKE}' ended well and yet {ARCHIVE} is missing"));
     }
     if changed(&root.join("crates")) > changed(&archive) {
-        println!(
-            "cargo:warning=target/staticlib/libflatcarol.a is older than crates/: run '{MAKE}' to measure the code as it stands"
-        );
+        println!("cargo:warning={ARCHIVE} is older than crates/: run '{MAKE}' to measure the code as it stands");
     }
-    println!("cargo:rustc-link-search=native={}", folder.display());
+    println!("cargo:rustc-link-search=native={}", archive.parent().unwrap().display());
     println!("cargo:rustc-link-lib=static=flatcarol");
 }
 
 // Proves the library and writes its archive.
 fn make(root: &Path) {
-    let words: Vec<&str> = MAKE.split(' ').collect();
-    let missing = "target/staticlib/libflatcarol.a is missing";
-    match Command::new(words[0]).args(&words[1..]).current_dir(root).output() {
-        Err(error) => fail(&format!("{missing}, and '{MAKE}', which makes it, did not start: {error}")),
+    match Command::new(root.join(MAKE)).output() {
+        Err(error) => fail(&format!("{ARCHIVE} is missing, and '{MAKE}', which makes it, did not start: {error}")),
         Ok(run) if !run.status.success() => {
-            // Caught and not passed on, as cargo reads a build script's standard output. Its own lines have the verdicts.
+            // Caught and not passed on, as cargo reads a build script's standard output.
             let said = String::from_utf8_lossy(&[run.stdout, run.stderr].concat()).into_owned();
+            // rt's own lines have the verdicts.
             let verdicts: Vec<&str> = said.lines().filter(|line| line.starts_with("rt: ")).collect();
-            let verdicts = verdicts.join("\n");
-            fail(&format!("{missing}, and '{MAKE}', which makes it, failed ({}; target/log has more):\n{verdicts}", run.status));
+            let said = if verdicts.is_empty() { said } else { verdicts.join("\n") };
+            fail(&format!(
+                "{ARCHIVE} is missing, and '{MAKE}', which makes it, failed ({}; target/log has more):\n{said}",
+                run.status
+            ));
         }
         Ok(_) => {}
     }

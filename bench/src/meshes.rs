@@ -1,7 +1,9 @@
-// The meshes that are measured: 4,096 triangles each, the most that a split takes.
-use std::collections::HashSet;
+// The meshes that are measured: the largest that a call takes, 4,096 triangles for a split and 16,384 for an undo, and for each a
+// torus of a sixteenth of that.
+use std::collections::{BTreeMap, BTreeSet};
 
 pub const TRIANGLES: usize = 4_096;
+pub const FINE_TRIANGLES: usize = 4 * TRIANGLES;
 
 pub struct Mesh {
     pub name: &'static str,
@@ -9,33 +11,48 @@ pub struct Mesh {
     pub vertices: usize,
     // Three corners for each triangle.
     pub list: Vec<u16>,
+    // For each triangle that a splitting made as the centre of four, the corners of the coarse triangle, by their numbers in this
+    // mesh and in the order of the centre's own corners. None for the others, and in a mesh that no splitting made.
+    pub coarse: Vec<Option<[u16; 3]>>,
+}
+
+// The meshes to split.
+pub fn to_split() -> Vec<Mesh> {
+    let mut random = Random::new();
+    let glued = glued(&mut random);
+    in_both_orders([torus("torus", 64, 32), fan(), book(), glued, torus("small", 16, 8)], &mut random)
+}
+
+// The meshes to undo: splittings, and two that no role reads. In a torus with odd sides each role reaches all tiles, four times as many
+// as it may, and in the last each goes further than that.
+pub fn to_undo() -> Vec<Mesh> {
+    let mut random = Random::new();
+    let glued = glued(&mut random);
+    let meshes = [torus("torus", 64, 32), split_triangle(6), fan(), book(), glued, torus("small", 16, 8)];
+    in_both_orders(meshes.iter().map(split_of).chain([torus("odd", 127, 63), refused()]), &mut random)
 }
 
 // Each mesh in the order that its making gives and shuffled, always the same ones.
-pub fn all() -> Vec<Mesh> {
-    let mut random = Random(0x9e37_79b9_7f4a_7c15);
-    let mut meshes = Vec::new();
-    for mesh in [torus(), fan(), book(), glued(&mut random)] {
-        let other = shuffled(&mesh, &mut random);
-        meshes.extend([mesh, other]);
-    }
-    meshes
+fn in_both_orders(meshes: impl IntoIterator<Item = Mesh>, random: &mut Random) -> Vec<Mesh> {
+    let both = |mesh| {
+        let other = shuffled(&mesh, random);
+        [mesh, other]
+    };
+    meshes.into_iter().flat_map(both).collect()
 }
 
 fn mesh(name: &'static str, vertices: usize, triangles: Vec<[usize; 3]>) -> Mesh {
-    assert_eq!(triangles.len(), TRIANGLES);
+    let coarse = vec![None; triangles.len()];
     let list = triangles.into_iter().flatten().map(|corner| corner as u16).collect();
-    Mesh { name, order: "in order", vertices, list }
+    Mesh { name, order: "in order", vertices, list, coarse }
 }
 
-// A mesh as programs have it: every edge in two triangles, about six triangles at a vertex, neighbours near in the list.
-fn torus() -> Mesh {
-    const WIDE: usize = 64;
-    const HIGH: usize = 32;
-    let vertex = |x: usize, y: usize| (y % HIGH) * WIDE + x % WIDE;
+// A mesh as programs have it: every edge in two triangles, six triangles at a vertex, neighbours near in the list.
+fn torus(name: &'static str, wide: usize, high: usize) -> Mesh {
+    let vertex = |x: usize, y: usize| (y % high) * wide + x % wide;
     let quad = |x: usize, y: usize| [vertex(x, y), vertex(x + 1, y), vertex(x + 1, y + 1), vertex(x, y + 1)];
-    let quads = (0..HIGH).flat_map(|y| (0..WIDE).map(move |x| quad(x, y)));
-    mesh("torus", WIDE * HIGH, quads.flat_map(|[a, b, c, d]| [[a, b, c], [a, c, d]]).collect())
+    let quads = (0..high).flat_map(|y| (0..wide).map(move |x| quad(x, y)));
+    mesh(name, wide * high, quads.flat_map(|[a, b, c, d]| [[a, b, c], [a, c, d]]).collect())
 }
 
 // All triangles at one vertex, so that in order one chain of the edge table, that of the lesser end 0, has 8,192 half-edges.
@@ -53,7 +70,7 @@ fn book() -> Mesh {
 fn glued(random: &mut Random) -> Mesh {
     let mut triangles = vec![[0, 1, 2]];
     let mut vertices = 3;
-    let mut known = HashSet::from([[0, 1, 2]]);
+    let mut known = BTreeSet::from([[0, 1, 2]]);
     while triangles.len() < TRIANGLES {
         let [p, q, r] = triangles[random.below(triangles.len())];
         let [a, b] = [[p, q], [q, r], [r, p]][random.below(3)];
@@ -72,23 +89,82 @@ fn glued(random: &mut Random) -> Mesh {
     mesh("random", vertices, triangles)
 }
 
+// A triangle, split so many times.
+fn split_triangle(times: usize) -> Mesh {
+    (0..times).fold(mesh("triangle", 3, vec![[0, 1, 2]]), |mesh, _| split_of(&mesh))
+}
+
+// A mesh that all four roles refuse, and late. A torus has a reading in each role: the vertices that it keeps are those with x even
+// or odd and y even or odd. Of each of these four sorts seven vertices are made one, near the end of the list, a vertex and the six
+// that each have two neighbours of the same sort in common with it. So in each role the coarse mesh has 6 vertices and 18 edges
+// fewer, as many as the whole mesh has lost, and only the vertices of the other three sorts, which would need several numbers,
+// tell.
+fn refused() -> Mesh {
+    const WIDE: usize = 128;
+    const HIGH: usize = 64;
+    const RING: [(isize, isize); 6] = [(4, 2), (2, 4), (-2, 2), (-4, -2), (-2, -4), (2, -2)];
+    let mut mesh = torus("refused", WIDE, HIGH);
+    for (i, j) in [(0, 0), (1, 0), (0, 1), (1, 1)] {
+        let (x, y) = (16 + 64 * i + 33 * j, HIGH - 6 + i);
+        let ring = RING.map(|(dx, dy)| y.wrapping_add_signed(dy) * WIDE + x.wrapping_add_signed(dx));
+        for corner in mesh.list.iter_mut().filter(|corner| ring.contains(&(**corner as usize))) {
+            *corner = (y * WIDE + x) as u16;
+        }
+    }
+    let used: BTreeSet<u16> = mesh.list.iter().copied().collect();
+    let ranks: BTreeMap<u16, u16> = used.into_iter().zip(0..).collect();
+    mesh.list = mesh.list.iter().map(|corner| ranks[corner]).collect();
+    mesh.vertices = ranks.len();
+    mesh
+}
+
+fn split_of(mesh: &Mesh) -> Mesh {
+    let (vertices, list) = splitting(mesh.vertices, &mesh.list);
+    let coarse = mesh.list.chunks_exact(3).flat_map(|t| [Some([t[0], t[1], t[2]]), None, None, None]).collect();
+    Mesh { vertices, list, coarse, ..*mesh }
+}
+
+// The splitting of a list, by a map of edges that neither version has: how many vertices it has, and its triangles.
+pub fn splitting(vertices: usize, list: &[u16]) -> (usize, Vec<u16>) {
+    let mut numbers = BTreeMap::new();
+    let mut fours = Vec::new();
+    for t in list.chunks_exact(3) {
+        let [e12, e23, e31] = [[t[0], t[1]], [t[1], t[2]], [t[2], t[0]]].map(|mut edge| {
+            edge.sort();
+            let next = u16::try_from(vertices + numbers.len()).expect("the splitting has too many vertices");
+            *numbers.entry(edge).or_insert(next)
+        });
+        fours.extend([[e12, e23, e31], [t[0], e12, e31], [t[1], e23, e12], [t[2], e31, e23]].concat());
+    }
+    (vertices + numbers.len(), fours)
+}
+
 // The same mesh with its triangles in random order, its vertices numbered at random, and the corners of each triangle rotated.
 fn shuffled(mesh: &Mesh, random: &mut Random) -> Mesh {
     let mut renamed: Vec<u16> = (0..mesh.vertices as u16).collect();
     random.shuffle(&mut renamed);
-    let mut triangles: Vec<[u16; 3]> = mesh.list.chunks_exact(3).map(|t| [t[0], t[1], t[2]]).collect();
+    let corners = mesh.list.chunks_exact(3).map(|t| [t[0], t[1], t[2]]);
+    let mut triangles: Vec<([u16; 3], Option<[u16; 3]>)> = corners.zip(mesh.coarse.iter().copied()).collect();
     random.shuffle(&mut triangles);
-    for triangle in &mut triangles {
-        *triangle = triangle.map(|corner| renamed[corner as usize]);
-        triangle.rotate_left(random.below(3));
+    for (triangle, coarse) in &mut triangles {
+        let places = random.below(3);
+        for three in [Some(triangle), coarse.as_mut()].into_iter().flatten() {
+            *three = three.map(|corner| renamed[corner as usize]);
+            three.rotate_left(places);
+        }
     }
-    Mesh { name: mesh.name, order: "shuffled", vertices: mesh.vertices, list: triangles.concat() }
+    let (triangles, coarse): (Vec<_>, Vec<_>) = triangles.into_iter().unzip();
+    Mesh { order: "shuffled", list: triangles.concat(), coarse, ..*mesh }
 }
 
 // Marsaglia's xorshift of 64 bits: the meshes must be the same in every run, and on every machine.
 struct Random(u64);
 
 impl Random {
+    fn new() -> Random {
+        Random(0x9e37_79b9_7f4a_7c15)
+    }
+
     fn below(&mut self, n: usize) -> usize {
         self.0 ^= self.0 << 13;
         self.0 ^= self.0 >> 7;

@@ -4,8 +4,8 @@ use mathlib.Core.Path.{refl}
 use mathlib.Core.Logic.{_≢_, inl, inr}
 use mathlib.Core.List.{List, [], _∷_, _++_}
 use Rattle.theory.specs.Refusals.{Rule, noPlace, Passed, Refused}
-use Rattle.mesh.specs.Judged.{Judged, passes, fails}
-use Rattle.mesh.proofs.Judgement.{judged-later}
+use Rattle.limits.specs.Judged.{Judged, passes, fails}
+use Rattle.limits.proofs.Judgement.{judged-later}
 
 -- two last rows without a place whose conditions hold together judge the same
 pub judged-either : (front : List Rule) (number : ℕ) {verdict place : ℕ} {one other : Type 0} → (one → other)
@@ -48,3 +48,15 @@ pub passed-back : (front back : List Rule) → Passed front → Passed back → 
 unfolding Passed
 passed-back [] back p q = q
 passed-back (rule ∷ rules) back (none, p) q = (none, passed-back rules back p q)
+
+-- of two lists that are passed, the first is
+pub first-passed : (front back : List Rule) → Passed (front ++ back) → Passed front
+unfolding Passed
+first-passed [] back p = tt
+first-passed (rule ∷ rules) back (none, p) = (none, first-passed rules back p)
+
+-- and the second
+pub second-passed : (front back : List Rule) → Passed (front ++ back) → Passed back
+unfolding Passed
+second-passed [] back p = p
+second-passed (rule ∷ rules) back (none, p) = second-passed rules back p

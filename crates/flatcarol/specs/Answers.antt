@@ -1,6 +1,21 @@
--- The code's answers as document 01's.
+-- The code's answers and buffers as document 01's.
+use Prim.Native.Nat.{ℕ}
+use mathlib.Core.List.{List}
 use Rattle.theory.specs.Calls as promise
 use Rattle.flatcarol.specs.declared.answers.Answer.{Answer}
+use Rattle.flatcarol.specs.declared.answers.OneAnswer.{OneAnswer}
 
+-- The answer of split.
 abbrev pub answerOf : Answer → promise.Answer
 answerOf a = record { refusal = a .refusal; place = a .place; vertices = a .vertices; triangles = a .triangles }
+
+-- The answer of undo one.
+abbrev pub oneAnswerOf : OneAnswer → promise.OneAnswer
+oneAnswerOf a = record {
+  common = record { refusal = a .refusal; place = a .place; vertices = a .vertices; triangles = a .triangles };
+  role = a .role;
+}
+
+-- The three output buffers of undo one.
+abbrev pub outputs : List ℕ → List ℕ → List ℕ → promise.Outputs
+outputs mesh vertexMap triangleMap = record { mesh = mesh; vertexMap = vertexMap; triangleMap = triangleMap }

@@ -2,6 +2,7 @@
 // buffers, does its work by the crates below, and clears them again. A refusal writes no output buffer. Buffers must
 // not overlap. Assumes nothing.
 pub mod answers;
-pub mod calls;
+pub mod call_split;
+pub mod call_undo_one;
 mod sizes;
 mod work;

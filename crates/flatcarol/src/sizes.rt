@@ -1,7 +1,16 @@
-// Refusal 5, which is judged from lengths alone, behind 2 to 4.
-use mesh::size::judge_size_to_split;
-ghost use Rattle.mesh.specs.Judged.{Judged};
-ghost use Rattle.flatcarol.specs.Sizes.{splitSizeRules};
+// Refusals 1 to 5 of a call, which are judged from numbers alone.
+use limits::size::judge_asked;
+use limits::size::judge_size_to_split;
+use limits::size::judge_size_to_undo;
+ghost use Prim.Native.Nat.{_≤_};
+ghost use mathlib.Core.List.{[], _∷_};
+ghost use Rattle.theory.specs.Limits.{mostTriangles, mostVertices};
+ghost use Rattle.theory.specs.Refusals.{tooShort};
+ghost use Rattle.limits.specs.Judged.{Judged};
+ghost use Rattle.flatcarol.specs.Sizes.{splitSizeRules, undoOneLengths, undoOneSizeRules};
+
+// What undo one is asked where any role will do; nothing above it may be asked.
+const ANY_ROLE: u64 = 4;
 
 // 2 to 5 of a split, whose output has `out` entries and whose shortest work buffer has `work`; 0 where none is given.
 pub(crate) fn judge_split_size(vertices: u64, entries: usize, out: usize, work: usize) -> u64
@@ -16,6 +25,66 @@ pub(crate) fn judge_split_size(vertices: u64, entries: usize, out: usize, work: 
         return 5;
     }
     if work < vertices as usize + 3 * triangles {
+        return 5;
+    }
+    0
+}
+
+// 1 to 5 of undo one, whose outputs have `mesh`, `vertex_map` and `triangle_map` entries, and whose shortest work
+// buffer has `work`; 0 where none is given.
+pub(crate) fn judge_undo_one_size(
+    vertices: u64,
+    entries: usize,
+    asked: u64,
+    mesh: usize,
+    vertex_map: usize,
+    triangle_map: usize,
+    work: usize,
+) -> u64
+    ensures { λ r. ⌜ Judged (undoOneSizeRules vertices entries asked mesh «vertex_map» «triangle_map» work) r 0 ⌝ }
+{
+    let refused = judge_asked(ANY_ROLE, asked);
+    if refused != 0 {
+        return refused;
+    }
+    let number = judge_size_to_undo(vertices, entries);
+    if number != 0 {
+        return number;
+    }
+    judge_undo_one_room(
+        vertices as usize,
+        entries / 3,
+        mesh,
+        vertex_map,
+        triangle_map,
+        work,
+    )
+}
+
+// 5 of undo one.
+fn judge_undo_one_room(
+    vertices: usize,
+    triangles: usize,
+    mesh: usize,
+    vertex_map: usize,
+    triangle_map: usize,
+    work: usize,
+) -> u64
+    requires { ⌜ vertices ≤ mostVertices ⌝ }
+    requires { ⌜ triangles ≤ mostTriangles ⌝ }
+    ensures { λ r. ⌜ Judged (tooShort (undoOneLengths vertices triangles mesh «vertex_map» «triangle_map» work) ∷ [])
+        r 0 ⌝ }
+{
+    if mesh < 3 * (triangles / 4) {
+        return 5;
+    }
+    if vertex_map < vertices {
+        return 5;
+    }
+    if triangle_map < triangles {
+        return 5;
+    }
+    if work < vertices + 3 * triangles {
         return 5;
     }
     0

@@ -4,6 +4,7 @@ ghost use mathlib.Core.Path.{_≡_};
 ghost use mathlib.Core.List.{[], _∷_, map};
 ghost use Prim.Native.Nat.{min};
 ghost use Rattle.theory.specs.Calls.{zeros};
+ghost use Rattle.flatcarol.specs.Lengths.{least};
 
 // The lesser of two lengths.
 fn shorter(a: usize, b: usize) -> usize
@@ -12,8 +13,15 @@ fn shorter(a: usize, b: usize) -> usize
     if a < b { a } else { b }
 }
 
-// The least of seven lengths.
-pub(crate) fn shortest(
+// The least of four lengths.
+fn shortest_of_four(a: usize, b: usize, c: usize, d: usize) -> usize
+    ensures { λ r. ⌜ r ≡ least a (b ∷ c ∷ d ∷ []) ⌝ }
+{
+    shorter(a, shorter(b, shorter(c, d)))
+}
+
+// The least of seven.
+pub(crate) fn shortest_of_seven(
     a: usize,
     b: usize,
     c: usize,
@@ -22,16 +30,44 @@ pub(crate) fn shortest(
     f: usize,
     g: usize,
 ) -> usize
-    ensures { λ r. ⌜ r ≡ min (min (min a b) (min c d)) (min (min e f) g) ⌝ }
+    ensures { λ r. ⌜ r ≡ least a (b ∷ c ∷ d ∷ e ∷ f ∷ g ∷ []) ⌝ }
 {
-    shorter(
-        shorter(shorter(a, b), shorter(c, d)),
-        shorter(shorter(e, f), g),
-    )
+    shorter(a, shorter(b, shorter(c, shortest_of_four(d, e, f, g))))
 }
 
-// Sets every entry of the seven buffers to 0.
-pub(crate) fn clear_all(
+// The least of eleven.
+pub(crate) fn shortest_of_eleven(
+    a: usize,
+    b: usize,
+    c: usize,
+    d: usize,
+    e: usize,
+    f: usize,
+    g: usize,
+    h: usize,
+    i: usize,
+    j: usize,
+    k: usize,
+) -> usize
+    ensures { λ r. ⌜ r ≡ least a (b ∷ c ∷ d ∷ e ∷ f ∷ g ∷ h ∷ i ∷ j ∷ k ∷ []) ⌝ }
+{
+    let others = shortest_of_seven(e, f, g, h, i, j, k);
+    shorter(a, shorter(b, shorter(c, shorter(d, others))))
+}
+
+// Sets every entry of four buffers to 0.
+fn clear_four(a: &mut [u16], b: &mut [u16], c: &mut [u16], d: &mut [u16])
+    ensures { λ _. ⌜ (now (a .exit) ∷ now (b .exit) ∷ now (c .exit) ∷ now (d .exit) ∷ [])
+        ≡ map zeros (now (a .entry) ∷ now (b .entry) ∷ now (c .entry) ∷ now (d .entry) ∷ []) ⌝ }
+{
+    clear(a);
+    clear(b);
+    clear(c);
+    clear(d);
+}
+
+// Of seven.
+pub(crate) fn clear_seven(
     a: &mut [u16],
     b: &mut [u16],
     c: &mut [u16],
@@ -52,4 +88,28 @@ pub(crate) fn clear_all(
     clear(e);
     clear(f);
     clear(g);
+}
+
+// Of eleven.
+pub(crate) fn clear_eleven(
+    a: &mut [u16],
+    b: &mut [u16],
+    c: &mut [u16],
+    d: &mut [u16],
+    e: &mut [u16],
+    f: &mut [u16],
+    g: &mut [u16],
+    h: &mut [u16],
+    i: &mut [u16],
+    j: &mut [u16],
+    k: &mut [u16],
+)
+    ensures { λ _. ⌜ (now (a .exit) ∷ now (b .exit) ∷ now (c .exit) ∷ now (d .exit) ∷ now (e .exit)
+        ∷ now (f .exit) ∷ now (g .exit) ∷ now (h .exit) ∷ now (i .exit) ∷ now (j .exit) ∷ now (k .exit) ∷ [])
+        ≡ map zeros (now (a .entry) ∷ now (b .entry) ∷ now (c .entry) ∷ now (d .entry) ∷ now (e .entry)
+        ∷ now (f .entry) ∷ now (g .entry) ∷ now (h .entry) ∷ now (i .entry) ∷ now (j .entry)
+        ∷ now (k .entry) ∷ []) ⌝ }
+{
+    clear_four(a, b, c, d);
+    clear_seven(e, f, g, h, i, j, k);
 }

@@ -5,5 +5,3 @@ pub mod Sides
 pub mod Joins
 pub mod Twins
 pub mod Search
-pub mod Judgement
-pub mod Sized

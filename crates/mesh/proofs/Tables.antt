@@ -2,13 +2,13 @@
 -- what their functions give at the corners 3k, 3k + 1, 3k + 2. The arithmetic of corners stands in front.
 use Prim.Native.Nat.{ℕ, _+_, _*_, _≤_, _<_}
 use native.Mathlib.Omega.{arith}
-use mathlib.Core.Path.{_≡_, _∙_, refl, sym, ap}
+use mathlib.Core.Path.{_≡_, _∙_, refl, ap}
 use mathlib.Core.List.{List}
 use lib.ListN.{length, length-set, set}
 use Rattle.theory.specs.Mesh.{at}
 use Rattle.theory.specs.Splitting.{next}
 use Rattle.lists.specs.Tables.{Tabulated}
-use Rattle.lists.proofs.Lists.{at-set}
+use Rattle.lists.proofs.Tables.{tabulated-store}
 use Rattle.mesh.specs.Tables.{third}
 
 -- ---- the corners of a triangle
@@ -24,15 +24,6 @@ pub next-last : (k : ℕ) → next (3 * k + 2) ≡ 3 * k
 next-last k = omega arith
 
 -- ---- stores into a table
-
--- one entry more
-pub tabulated-store : {g : ℕ → ℕ} {n m v : ℕ} {table : List ℕ} → m ≤ n + 1 → n < length table → v ≡ g n
-    → Tabulated g n table → Tabulated g m (set table n v)
-tabulated-store {g} {n} {m} {v} {table} le room e R =
-    record {
-      entry = λ h l.
-          at-set (λ w. w ≡ g h) table n v h room (λ same. e ∙ ap g (sym same)) (λ other. R .entry h (omega arith));
-    }
 
 -- The list after the three entries of triangle k are stored.
 abbrev pub stored : List ℕ → ℕ → ℕ → ℕ → ℕ → List ℕ

@@ -2,4 +2,3 @@
 pub mod Tables
 pub mod Reached
 pub mod Faults
-pub mod Judged

@@ -1,4 +1,4 @@
-// The faults of a mesh that refusals 6 to 10 report: for each the least place, or the number of places where there is
+// The faults of a mesh that refusals 6 to 9 report: for each the least place, or the number of places where there is
 // none.
 use super::ends::third_vertices;
 use lists::at;

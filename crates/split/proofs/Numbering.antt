@@ -7,10 +7,14 @@ use mathlib.Core.List.{List}
 use lib.ListN.{length}
 use Rattle.theory.specs.Counting.{count}
 use Rattle.theory.specs.Splitting.{firstOn, isFirst, edges, edgeNo}
-use Rattle.theory.proofs.Counting.{count-cong}
+use Rattle.theory.proofs.Counting.{count-cong, count-le}
 use Rattle.theory.proofs.Splitting.{firstOn-le}
 use Rattle.lists.specs.Tables.{Tabulated}
 use Rattle.split.specs.Numbers.{leads, Numbered}
+
+-- there are no more edges than half-edges
+pub edges-le : {M n E : ℕ} {first numbers : List ℕ} → Numbered M n first E numbers → E ≤ n
+edges-le {n = n} {first = first} D = omega (arith, D .total, count-le (leads first) n)
 
 module _ (T : List ℕ) {n : ℕ} {first : List ℕ} (whole : length T ≡ n) (firsts : Tabulated (firstOn T) n first) where
   -- the half-edges that lead by the table are the first appearances

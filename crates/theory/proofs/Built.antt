@@ -12,7 +12,7 @@ use Rattle.theory.specs.Reading.{renamed}
 use Rattle.theory.proofs.Tiles.{InRow}
 
 -- the reached rows numbered upward (`tile`) up to F, and their vertices numbered upward (`rank`) up to M
-pub record Ranked (N : ℕ) (T W : List ℕ) (s M F : ℕ) (rank tile : List ℕ) : Type 0 where
+pub record Ranked (W : List ℕ) (s M F : ℕ) (rank tile : List ℕ) : Type 0 where
   pub rankBelow : (v : ℕ) → InRow W s v → at rank v < M
   pub rankUpward : (u v : ℕ) → InRow W s u → InRow W s v → u < v → at rank u < at rank v
   pub rankOnto : (y : ℕ) → y < M → (v : ℕ) × InRow W s v × (at rank v ≡ y)
@@ -21,8 +21,8 @@ pub record Ranked (N : ℕ) (T W : List ℕ) (s M F : ℕ) (rank tile : List ℕ
   pub tileOnto : (j : ℕ) → j < F → (k : ℕ) × Reach W s k × (at tile k ≡ j)
 
 -- the coarse mesh: the reached rows in the order of their numbers, with their vertices' numbers for entries
-pub record Built (N : ℕ) (T W : List ℕ) (s M : ℕ) (C rank tile : List ℕ) : Type 0 where
-  pub ranked : Ranked N T W s M (triangles C) rank tile
+pub record Built (W : List ℕ) (s M : ℕ) (C rank tile : List ℕ) : Type 0 where
+  pub ranked : Ranked W s M (triangles C) rank tile
   pub whole : length C ≡ 3 * triangles C
   pub rows : (k i : ℕ) → Reach W s k → i < 3 → at C (3 * at tile k + i) ≡ at rank (at W (3 * k + i))
 

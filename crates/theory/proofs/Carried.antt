@@ -567,7 +567,8 @@ module _ (f g κ : List ℕ) (M : ℕ) (C : List ℕ) (M′ : ℕ) (C′ : List 
   splits-agree : (t : ℕ) → t < 4 * triangles C
       → Same (renamed (vertices .list) (split M C)) t (split M′ C′) (at (faces .list) t)
   splits-agree t l = three-same (vertices .list) (split M C) (split M′ C′) (M + edges C) (M′ + edges C′) t
-      (at (faces .list) t) (vertices .match) (split-below M C (K .source)) (split-different M C (K .source))
+      (at (faces .list) t) (vertices .match) (split-below M C (K .source))
+      (split-different M C (K .source .whole) (K .source .different) (K .source .below))
       (omega (arith, split-length M C)) (λ v o. on-carried t v l o)
 
   -- the splittings are matched

@@ -163,7 +163,7 @@ module _ (N : ℕ) (T : List ℕ) (P : Proper N T) (some : 0 < triangles T) (W :
 
   -- ---- the numbers of the reached rows and of their vertices are those of the reading
 
-  module _ (M F : ℕ) (rank tile : List ℕ) (ranked : Ranked N T W s M F rank tile) where
+  module _ (M F : ℕ) (rank tile : List ℕ) (ranked : Ranked W s M F rank tile) where
     -- the ranks grow
     rank-upward : Upward (InRow W s) (at rank)
     rank-upward = record { grows = ranked .rankUpward }
@@ -213,7 +213,7 @@ module _ (N : ℕ) (T : List ℕ) (P : Proper N T) (some : 0 < triangles T) (W :
 
   -- ---- what is built is the reading
 
-  module _ (M : ℕ) (C rank tile : List ℕ) (built : Built N T W s M C rank tile) where
+  module _ (M : ℕ) (C rank tile : List ℕ) (built : Built W s M C rank tile) where
     -- as many vertices
     built-vertices : M ≡ r .vertices
     built-vertices = ranked-vertices M (triangles C) rank tile (built .ranked)

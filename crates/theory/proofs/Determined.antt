@@ -1,7 +1,7 @@
 -- `determined`: for each call, two results that satisfy its relation are equal. The first refusal that is given and
 -- its least place are one; a list of rules is not both passed and refused; the choice of a role, the returned reading
 -- in it and the levels of undo several are one.
-use Prim.Native.Nat.{ℕ, zero, suc, _*_, _%_, _<_}
+use Prim.Native.Nat.{ℕ, zero, suc, _*_, _%_, _≤_, _<_}
 use native.Mathlib.Omega.{arith}
 use native.Mathlib.Decide.{ℕ-discrete}
 use mathlib.Core.Path.{_≡_, refl, sym, ap, ap₂, _∙_, subst, subst₂}
@@ -9,7 +9,7 @@ use mathlib.Core.Logic.{inl, inr}
 use mathlib.Core.List.{List, [], _∷_, _++_}
 use lib.ListN.{length}
 use Rattle.theory.specs.Mesh.{triangles, Same, Proper}
-use Rattle.theory.specs.Reading.{Reading, IsReading, Returned}
+use Rattle.theory.specs.Reading.{Reading, IsReading, RoleOf, ReadingIn, Returned}
 use Rattle.theory.specs.Choice.{LeastRole, Chosen, named, least, NoneChosen}
 use Rattle.theory.specs.Choice.{Several, reached, stopped, undone, sevenPlaces}
 use Rattle.theory.specs.Refusals.{Rule, Room, notThrees, noTriangle, meshRules, noReading}
@@ -46,6 +46,15 @@ passed-not-refused (rule ∷ rules) n p a (inl b) = a .0 p (b .1 .here)
 passed-not-refused (rule ∷ rules) n p a (inr b) = passed-not-refused rules n p (a .1) (b .1)
 
 -- ---- the role chosen
+
+-- a role is at most 3
+pub role-within : {T : List ℕ} {r : Reading} {k role : ℕ} → RoleOf T r k role → role ≤ 3
+role-within (RoleOf.centre _) = omega arith
+role-within (RoleOf.corner i l _ _) = omega arith
+
+-- a returned reading is a reading in its role
+pub returned-in : {N role : ℕ} {T : List ℕ} {r : Reading} → Returned Same N T role r → ReadingIn Same N T role
+returned-in {r = r} R = record { reading = r; is = R .is; inRole = R .inRole }
 
 least-role-unique : {N : ℕ} {T : List ℕ} {ρ σ : ℕ} → LeastRole Same N T ρ → LeastRole Same N T σ → ρ ≡ σ
 least-role-unique {N} {T} {ρ} {σ} a b =
@@ -102,13 +111,13 @@ several-unique (suc n) {T = T} P l (undone {role = ρ} r a R S)
 -- ---- what passed rules say
 
 -- the rules in front of a longer list are passed too
-passed-front : (front back : List Rule) → Passed (front ++ back) → Passed front
+pub passed-front : (front back : List Rule) → Passed (front ++ back) → Passed front
 unfolding Passed
 passed-front [] back p = tt
 passed-front (rule ∷ front) back p = (p .0, passed-front front back (p .1))
 
 -- where 2, 3 and 6 to 10 are not given, the mesh is proper and has a triangle
-judged : (N : ℕ) (T : List ℕ) → ((p : ℕ) → notThrees T .given p → ⊥) → ((p : ℕ) → noTriangle T .given p → ⊥)
+pub judged : (N : ℕ) (T : List ℕ) → ((p : ℕ) → notThrees T .given p → ⊥) → ((p : ℕ) → noTriangle T .given p → ⊥)
     → Passed (meshRules N T) → Proper N T × (0 < triangles T)
 judged N T threes some passed =
     (passed-proper N T (go (ℕ-discrete (length T % 3) 0)) passed, more (ℕ-discrete (triangles T) 0))

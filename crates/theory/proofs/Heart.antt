@@ -67,24 +67,105 @@ pub record CoarseOn (C : List ℕ) (t v : ℕ) : Type 0 where
   pub place : suc (corner % 3) ≡ t % 4
   pub holds : at C corner ≡ v
 
+-- ---- a list of triangles with three different corners
+
+module _ (M : ℕ) (C : List ℕ) (whole : length C ≡ 3 * triangles C)
+    (different : (c d : ℕ) → c < length C → d < length C → c / 3 ≡ d / 3 → at C c ≡ at C d → c ≡ d) where
+  -- within one triangle an edge has one half-edge
+  halves-within : (g h : ℕ) → g < length C → h < length C → g / 3 ≡ h / 3 → SameEdge C g h → g ≡ h
+  halves-within g h lg lh t e = go (sameEdge-ends e)
+    where
+      go : ((at C g ≡ at C h) × (at C (next g) ≡ at C (next h)))
+          ⊎ ((at C g ≡ at C (next h)) × (at C (next g) ≡ at C h)) → g ≡ h
+      go (inl (p, q)) = different g h lg lh t p
+      go (inr (p, q)) =
+          absurd
+          (next-twice g h (different g (next h) lg (omega arith) (omega arith) p)
+          (different (next g) h (omega arith) lh (omega arith) q))
+
+  -- so its half-edges have three different numbers
+  numbers-within : (g h : ℕ) → g < length C → h < length C → g / 3 ≡ h / 3 → edgeNo M C g ≡ edgeNo M C h → g ≡ h
+  numbers-within g h lg lh t e = halves-within g h lg lh t (edgeNo-injective M C g h e)
+
+  module _ (below : (c : ℕ) → c < length C → at C c < M) where
+    -- the three entries of a centre differ
+    centre-different : (j a b : ℕ) → j < triangles C → a < b → b < 3
+        → at (split M C) (12 * j + a) ≡ at (split M C) (12 * j + b) → ⊥
+    centre-different j a b l k n e = omega (
+      arith,
+      numbers-within (3 * j + a) (3 * j + b) (omega arith) (omega arith) (omega arith)
+          (sym (split-centre M C j a l (omega arith)) ∙ e ∙ split-centre M C j b l n),
+    )
+
+    -- the three entries of a corner triangle differ
+    corner-different : (j i a b : ℕ) → j < triangles C → i < 3 → a < b → b < 3
+        → at (split M C) (12 * j + (3 * i + 3 + a)) ≡ at (split M C) (12 * j + (3 * i + 3 + b)) → ⊥
+    corner-different j i a b l k n m e = go (ℕ-discrete a 0) (ℕ-discrete b 1)
+      where
+        placed : (x y w : ℕ) → 3 * i + 3 + x ≡ y → at (split M C) (12 * j + y) ≡ w
+            → at (split M C) (12 * j + (3 * i + 3 + x)) ≡ w
+        placed x y w p q = ap (λ z. at (split M C) (12 * j + z)) p ∙ q
+
+        first : a ≡ 0 → at (split M C) (12 * j + (3 * i + 3 + a)) < M
+        first x =
+            rw (placed a (3 * i + 3) (at C (3 * j + i)) (omega arith) (split-corner M C j i l k))
+            (below (3 * j + i) (omega arith))
+
+        second : (x : ℕ) → x ≡ 1 → at (split M C) (12 * j + (3 * i + 3 + x)) ≡ edgeNo M C (3 * j + i)
+        second x p = placed x (3 * i + 4) (edgeNo M C (3 * j + i)) (omega arith) (split-leaving M C j i l k)
+
+        third : b ≡ 2 → at (split M C) (12 * j + (3 * i + 3 + b)) ≡ edgeNo M C (3 * j + (i + 2) % 3)
+        third p = placed b (3 * i + 5) (edgeNo M C (3 * j + (i + 2) % 3)) (omega arith) (split-entering M C j i l k)
+
+        go : Dec (a ≡ 0) → Dec (b ≡ 1) → ⊥
+        go (yes x) (yes y) = omega (arith, first x, second b y, edgeNo-above M C (3 * j + i))
+        go (yes x) (no y) = omega (arith, first x, third (omega arith), edgeNo-above M C (3 * j + (i + 2) % 3))
+        go (no x) (yes y) = omega arith
+        go (no x) (no y) = omega (
+          arith,
+          numbers-within (3 * j + i) (3 * j + (i + 2) % 3) (omega arith) (omega arith) (omega arith)
+              (sym (second a (omega arith)) ∙ e ∙ third (omega arith)),
+        )
+
+    -- so do the entries of any triangle
+    different-before : (c d : ℕ) → c < d → d < length (split M C) → c / 3 ≡ d / 3
+        → at (split M C) c ≡ at (split M C) d → ⊥
+    different-before c d k l t e = go (ℕ-discrete (c / 3 % 4) 0)
+      where
+        j : ℕ
+        j = c / 3 / 4
+
+        inside : j < triangles C
+        inside = omega (arith, split-length M C)
+
+        moved : (x y : ℕ) → c ≡ x → d ≡ y → at (split M C) x ≡ at (split M C) y
+        moved x y p q = ap (at (split M C)) (sym p) ∙ e ∙ ap (at (split M C)) q
+
+        go : Dec (c / 3 % 4 ≡ 0) → ⊥
+        go (yes z) = centre-different j (c % 3) (d % 3) inside (omega arith) (omega arith)
+            (moved (12 * j + c % 3) (12 * j + d % 3) (omega arith) (omega arith))
+        go (no n) = corner-different j i (c % 3) (d % 3) inside (omega arith) (omega arith) (omega arith)
+            (moved (12 * j + (3 * i + 3 + c % 3)) (12 * j + (3 * i + 3 + d % 3)) (omega arith) (omega arith))
+          where
+            i : ℕ
+            i = c / 3 % 4 - 1
+
+    -- "each triangle has three different corners"
+    pub split-different : (c d : ℕ) → c < length (split M C) → d < length (split M C) → c / 3 ≡ d / 3
+        → at (split M C) c ≡ at (split M C) d → c ≡ d
+    split-different c d lc ld t e =
+        neither-less (λ l. different-before c d l ld t e) (λ l. different-before d c l lc (sym t) (sym e))
+
 module _ (M : ℕ) (C : List ℕ) (P : OtherwiseProper M C) where
   -- ---- edges of a proper mesh
 
   -- within one triangle an edge has one half-edge
   sameEdge-within : (g h : ℕ) → g < length C → h < length C → g / 3 ≡ h / 3 → SameEdge C g h → g ≡ h
-  sameEdge-within g h lg lh t e = go (sameEdge-ends e)
-    where
-      go : ((at C g ≡ at C h) × (at C (next g) ≡ at C (next h)))
-          ⊎ ((at C g ≡ at C (next h)) × (at C (next g) ≡ at C h)) → g ≡ h
-      go (inl (p, q)) = P .different g h lg lh t p
-      go (inr (p, q)) =
-          absurd
-          (next-twice g h (P .different g (next h) lg (omega arith) (omega arith) p)
-          (P .different (next g) h (omega arith) lh (omega arith) q))
+  sameEdge-within = halves-within M C (P .whole) (P .different)
 
   -- so its half-edges have three different numbers
   pub edgeNo-within : (g h : ℕ) → g < length C → h < length C → g / 3 ≡ h / 3 → edgeNo M C g ≡ edgeNo M C h → g ≡ h
-  edgeNo-within g h lg lh t e = sameEdge-within g h lg lh t (edgeNo-injective M C g h e)
+  edgeNo-within = numbers-within M C (P .whole) (P .different)
 
   -- the ends of an edge are vertices of each triangle that has it
   sameEdge-on : (g h c : ℕ) → g < length C → SameEdge C g h → (c ≡ h) ⊎ (c ≡ next h) → On C (g / 3) (at C c)
@@ -327,74 +408,6 @@ module _ (M : ℕ) (C : List ℕ) (P : OtherwiseProper M C) where
       go : OnSplit M C (c / 3) (at (split M C) c) → at (split M C) c < M + edges C
       go (edge h k w p e) = omega (arith, edgeNo-below M C h k)
       go (coarse h k w p e) = omega (arith, P .below h k)
-
-  -- the three entries of a centre differ
-  centre-different : (j a b : ℕ) → j < triangles C → a < b → b < 3
-      → at (split M C) (12 * j + a) ≡ at (split M C) (12 * j + b) → ⊥
-  centre-different j a b l k n e = omega (
-    arith,
-    edgeNo-within (3 * j + a) (3 * j + b) (omega arith) (omega arith) (omega arith)
-        (sym (split-centre M C j a l (omega arith)) ∙ e ∙ split-centre M C j b l n),
-  )
-
-  -- the three entries of a corner triangle differ
-  corner-different : (j i a b : ℕ) → j < triangles C → i < 3 → a < b → b < 3
-      → at (split M C) (12 * j + (3 * i + 3 + a)) ≡ at (split M C) (12 * j + (3 * i + 3 + b)) → ⊥
-  corner-different j i a b l k n m e = go (ℕ-discrete a 0) (ℕ-discrete b 1)
-    where
-      placed : (x y w : ℕ) → 3 * i + 3 + x ≡ y → at (split M C) (12 * j + y) ≡ w
-          → at (split M C) (12 * j + (3 * i + 3 + x)) ≡ w
-      placed x y w p q = ap (λ z. at (split M C) (12 * j + z)) p ∙ q
-
-      first : a ≡ 0 → at (split M C) (12 * j + (3 * i + 3 + a)) < M
-      first x =
-          rw (placed a (3 * i + 3) (at C (3 * j + i)) (omega arith) (split-corner M C j i l k))
-          (P .below (3 * j + i) (omega arith))
-
-      second : (x : ℕ) → x ≡ 1 → at (split M C) (12 * j + (3 * i + 3 + x)) ≡ edgeNo M C (3 * j + i)
-      second x p = placed x (3 * i + 4) (edgeNo M C (3 * j + i)) (omega arith) (split-leaving M C j i l k)
-
-      third : b ≡ 2 → at (split M C) (12 * j + (3 * i + 3 + b)) ≡ edgeNo M C (3 * j + (i + 2) % 3)
-      third p = placed b (3 * i + 5) (edgeNo M C (3 * j + (i + 2) % 3)) (omega arith) (split-entering M C j i l k)
-
-      go : Dec (a ≡ 0) → Dec (b ≡ 1) → ⊥
-      go (yes x) (yes y) = omega (arith, first x, second b y, edgeNo-above M C (3 * j + i))
-      go (yes x) (no y) = omega (arith, first x, third (omega arith), edgeNo-above M C (3 * j + (i + 2) % 3))
-      go (no x) (yes y) = omega arith
-      go (no x) (no y) = omega (
-        arith,
-        edgeNo-within (3 * j + i) (3 * j + (i + 2) % 3) (omega arith) (omega arith) (omega arith)
-            (sym (second a (omega arith)) ∙ e ∙ third (omega arith)),
-      )
-
-  -- so do the entries of any triangle
-  different-before : (c d : ℕ) → c < d → d < length (split M C) → c / 3 ≡ d / 3
-      → at (split M C) c ≡ at (split M C) d → ⊥
-  different-before c d k l t e = go (ℕ-discrete (c / 3 % 4) 0)
-    where
-      j : ℕ
-      j = c / 3 / 4
-
-      below : j < triangles C
-      below = omega (arith, split-length M C)
-
-      moved : (x y : ℕ) → c ≡ x → d ≡ y → at (split M C) x ≡ at (split M C) y
-      moved x y p q = ap (at (split M C)) (sym p) ∙ e ∙ ap (at (split M C)) q
-
-      go : Dec (c / 3 % 4 ≡ 0) → ⊥
-      go (yes z) = centre-different j (c % 3) (d % 3) below (omega arith) (omega arith)
-          (moved (12 * j + c % 3) (12 * j + d % 3) (omega arith) (omega arith))
-      go (no n) = corner-different j i (c % 3) (d % 3) below (omega arith) (omega arith) (omega arith)
-          (moved (12 * j + (3 * i + 3 + c % 3)) (12 * j + (3 * i + 3 + d % 3)) (omega arith) (omega arith))
-        where
-          i : ℕ
-          i = c / 3 % 4 - 1
-
-  -- "each triangle has three different corners"
-  pub split-different : (c d : ℕ) → c < length (split M C) → d < length (split M C) → c / 3 ≡ d / 3
-      → at (split M C) c ≡ at (split M C) d → c ≡ d
-  split-different c d lc ld t e =
-      neither-less (λ l. different-before c d l ld t e) (λ l. different-before d c l lc (sym t) (sym e))
 
   -- every triangle of the splitting has two vertices between
   two-between-on : (t : ℕ) → t < 4 * triangles C

@@ -1,5 +1,6 @@
 -- The theorems about the definitions of specs/, bottom up: a file cites only files above it. First numbers, lists and
--- meshes in general, then the splitting, then readings, then what an undo builds; the frames stand for themselves.
+-- meshes in general, then the splitting, then readings, then the calls and the demands, then what an undo builds; the
+-- frames stand for themselves.
 pub mod Tests
 pub mod Finite
 pub mod Counting
@@ -19,6 +20,9 @@ pub mod Rows
 pub mod Unique
 pub mod Canonical
 pub mod Determined
+pub mod Results
+pub mod Demands
+pub mod SeveralDemands
 pub mod Tiles
 pub mod Built
 pub mod Complete

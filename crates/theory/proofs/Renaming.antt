@@ -7,9 +7,10 @@ use mathlib.Core.List.{List, [], _∷_}
 use lib.ListN.{length, length-map}
 use Rattle.theory.specs.Mesh.{at, triangles, On, Same, OtherwiseProper}
 use Rattle.theory.specs.Reading.{Match, Matched, renamed}
-use Rattle.theory.proofs.Finite.{map-at, identity, identity-at, composed, composed-match, composed-at}
+use Rattle.theory.proofs.Finite.{map-at, identity, identity-at, identity-match}
+use Rattle.theory.proofs.Finite.{composed, composed-match, composed-at}
 use Rattle.theory.proofs.Numbering.{Numbers, Renumbers}
-use Rattle.theory.proofs.Mesh.{on-vertex}
+use Rattle.theory.proofs.Mesh.{on-vertex, same-refl}
 
 -- ---- renamed lists
 
@@ -47,6 +48,15 @@ unfolding renamed
 renamed-identity n [] b = refl
 renamed-identity n (v ∷ T) b =
     ap₂ _∷_ (identity-at n v (b 0 (omega arith))) (renamed-identity n T λ c l. b (suc c) (omega arith))
+
+-- a mesh is matched with itself
+pub matched-identity : (N : ℕ) (T : List ℕ) → ((c : ℕ) → c < length T → at T c < N)
+    → Matched Same (identity N) (identity (triangles T)) N T N T
+matched-identity N T below = record {
+  vertices = identity-match N;
+  faces = identity-match (triangles T);
+  agreed = λ k l. rw (renamed-identity N T below, identity-at (triangles T) k l) (same-refl T k);
+}
 
 -- ---- matched triangles
 

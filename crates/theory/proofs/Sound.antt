@@ -26,7 +26,7 @@ reading M C vm tm = record { vertices = M; mesh = C; vertexMap = vm; triangleMap
 
 module _ (N : ℕ) (T : List ℕ) (P : Proper N T) (some : 0 < triangles T) (W : List ℕ) (cover : Covering T W)
     (ρ s : ℕ) (start : Start T ρ s) (inside : s < triangles T) (tile₀ : IsTile T s)
-    (M : ℕ) (C rank tile vm tm : List ℕ) (built : Built N T W s M C rank tile)
+    (M : ℕ) (C rank tile vm tm : List ℕ) (built : Built W s M C rank tile)
     (found : Found N T W s M C rank tile vm tm) where
   -- ---- the reached rows
 

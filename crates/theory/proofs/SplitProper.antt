@@ -10,11 +10,11 @@ use lib.ListN.{length}
 use Rattle.theory.specs.Mesh.{at, triangles, On, HasEdge, Same, Share, OtherwiseProper, Proper}
 use Rattle.theory.specs.Mesh.{Reach, here, step}
 use Rattle.theory.specs.Splitting.{next, edges, edgeNo, split}
-use Rattle.theory.specs.Reading.{renamed, Reading, IsReading, Kept, Centre, centre, Across, Returned}
-use Rattle.theory.proofs.Finite.{onto-le, identity, identity-at, identity-length, identity-match}
+use Rattle.theory.specs.Reading.{Matched, Reading, IsReading, Kept, Centre, centre, Across, Returned}
+use Rattle.theory.proofs.Finite.{onto-le, identity, identity-at, identity-length}
 use Rattle.theory.proofs.Corners.{triangle-place, before, before-place, next-before, next-or-before}
-use Rattle.theory.proofs.Mesh.{on-place, corners-apart, same-refl, share-sym, on-triangle, on-vertex}
-use Rattle.theory.proofs.Renaming.{renamed-identity}
+use Rattle.theory.proofs.Mesh.{on-place, corners-apart, share-sym, on-triangle, on-vertex}
+use Rattle.theory.proofs.Renaming.{matched-identity}
 use Rattle.theory.proofs.Splitting.{Joins, along, against, joins-sameEdge}
 use Rattle.theory.proofs.Splitting.{edgeNo-same, edgeNo-above, edgeNo-hit}
 use Rattle.theory.proofs.Splitting.{split-length, split-triangles, split-centre}
@@ -50,7 +50,7 @@ module _ (N : ℕ) (T : List ℕ) (P : OtherwiseProper N T) where
   split-otherwise = record {
     whole = omega (arith, split-length N T);
     below = split-below N T P;
-    different = split-different N T P;
+    different = split-different N T (P .whole) (P .different) (P .below);
     unlike = split-unlike N T P;
     used = split-used;
   }
@@ -202,16 +202,10 @@ module _ (N : ℕ) (T : List ℕ) (P : Proper N T) where
   itself-reading : IsReading Same (N + edges T) (split N T) (itself N T)
   itself-reading = record {
     proper = P;
-    matched = record {
-      vertices = identity-match (N + edges T);
-      faces = rw (split-triangles N T) (identity-match (4 * triangles T));
-      agreed = λ k l. rw (unchanged, identity-at (4 * triangles T) k (omega (arith, split-triangles N T)))
-          (same-refl (split N T) k);
-    };
+    matched = subst (λ n. Matched Same (identity (N + edges T)) (identity n) (N + edges T) (split N T) (N + edges T)
+        (split N T)) (split-triangles N T)
+        (matched-identity (N + edges T) (split N T) (split-below N T (P .otherwise)));
   }
-    where
-      unchanged : renamed (identity (N + edges T)) (split N T) ≡ split N T
-      unchanged = renamed-identity (N + edges T) (split N T) (split-below N T (P .otherwise))
 
   -- across the edge of centre 4j that ends at its corner i stands the coarse vertex at corner i of j
   centre-across : (j i : ℕ) → j < triangles T → i < 3

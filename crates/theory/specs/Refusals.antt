@@ -4,7 +4,7 @@ use mathlib.Core.Path.{_≡_}
 use mathlib.Core.Logic.{_≢_, _⊎_}
 use mathlib.Core.List.{List, [], _∷_}
 use lib.ListN.{length}
-use Rattle.theory.specs.Limits.{mostVertices}
+use Rattle.theory.specs.Limits.{mostVertices, mostBytes}
 use Rattle.theory.specs.Mesh.{triangles, On, Same, Reach}
 use Rattle.theory.specs.Choice.{NoneChosen}
 
@@ -104,6 +104,10 @@ notConnected T = record { number = 10; given = NotConnected T }
 -- 11: "no reading in the role asked (asked 4: in any)".
 abbrev pub noReading : ℕ → List ℕ → ℕ → Rule
 noReading N T asked = record { number = 11; given = noPlace (NoneChosen N T asked) }
+
+-- 13: "program input above 16,384 bytes", of so many bytes.
+abbrev pub inputTooLong : ℕ → Rule
+inputTooLong bytes = record { number = 13; given = noPlace (mostBytes < bytes) }
 
 -- The rows that judge the mesh itself, 6 to 10, in their order.
 abbrev pub meshRules : ℕ → List ℕ → List Rule

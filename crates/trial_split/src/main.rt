@@ -1,53 +1,61 @@
 // Tries the public call `flatcarol_split`: small meshes whose splitting is written out by hand, and each refusal that
 // it gives. For each it prints the answer (refusal, place, vertices, triangles), the corners of the triangles written,
-// and then the first entry of the output that was not to be written (7 as it was lent) and the sum of the work
-// buffers.
-use flatcarol::calls::flatcarol_split;
+// and then the first entry of the output that was not to be written (7 as it was lent, 0 where there is none) and the
+// sum of the work buffers.
+use flatcarol::call_split::flatcarol_split;
 use io::print_decimal;
 use io::write_all;
 use std::num::wrapping_add_u64;
 ghost use Prim.Native.Nat.{_≤_};
 
-// The entries of the output that are lent, one more than a tetrahedron needs.
-const OUT: usize = 49;
-
-// The entries of each work buffer that are lent.
-const WORK: usize = 32;
-
 fn main() {
     // accepted: one triangle, three triangles on one edge, a tetrahedron
-    try_split(3, &[0, 1, 2], OUT, WORK);
-    try_split(5, &[0, 1, 2, 0, 1, 3, 0, 1, 4], OUT, WORK);
-    try_split(4, &[0, 1, 2, 0, 3, 1, 0, 2, 3, 1, 3, 2], OUT, WORK);
+    try_split(3, &[0, 1, 2]);
+    try_split(5, &[0, 1, 2, 0, 1, 3, 0, 1, 4]);
+    try_split(4, &[0, 1, 2, 0, 3, 1, 0, 2, 3, 1, 3, 2]);
     // 2: a list of four entries; 3: an empty one
-    try_split(3, &[0, 1, 2, 0], OUT, WORK);
-    try_split(0, &[], OUT, WORK);
+    try_split(3, &[0, 1, 2, 0]);
+    try_split(0, &[]);
     // 4: a vertex or a triangle too many
-    try_split(32768, &[0, 1, 2], OUT, WORK);
-    try_split(65542, &[0, 1, 2], OUT, WORK);
-    try_split(3, &[0; 12291], OUT, WORK);
-    // 5: the output or a work buffer one entry too short
-    try_split(3, &[0, 1, 2], 11, WORK);
-    try_split(3, &[0, 1, 2], OUT, 5);
+    try_split(32768, &[0, 1, 2]);
+    try_split(65542, &[0, 1, 2]);
+    try_split(3, &[0; 12291]);
+    try_rooms();
     // 6: a corner not below V, also behind two equal corners, which come later in the order
-    try_split(2, &[0, 1, 2], OUT, WORK);
-    try_split(0, &[0, 1, 2], OUT, WORK);
-    try_split(3, &[0, 0, 1, 0, 1, 3], OUT, WORK);
+    try_split(2, &[0, 1, 2]);
+    try_split(0, &[0, 1, 2]);
+    try_split(3, &[0, 0, 1, 0, 1, 3]);
     // 7: two equal corners
-    try_split(2, &[0, 0, 1], OUT, WORK);
-    try_split(3, &[0, 1, 2, 1, 2, 1], OUT, WORK);
+    try_split(2, &[0, 0, 1]);
+    try_split(3, &[0, 1, 2, 1, 2, 1]);
     // 8: the same triangle again, turned over, and the later of two pairs
-    try_split(3, &[0, 1, 2, 0, 2, 1], OUT, WORK);
-    try_split(4, &[0, 1, 2, 0, 1, 3, 3, 1, 0, 2, 1, 0], OUT, WORK);
+    try_split(3, &[0, 1, 2, 0, 2, 1]);
+    try_split(4, &[0, 1, 2, 0, 1, 3, 3, 1, 0, 2, 1, 0]);
     // 9: a vertex in no triangle
-    try_split(4, &[0, 1, 2], OUT, WORK);
+    try_split(4, &[0, 1, 2]);
     // 10: triangles that touch at a point
-    try_split(5, &[0, 1, 2, 0, 3, 4], OUT, WORK);
+    try_split(5, &[0, 1, 2, 0, 3, 4]);
 }
 
-// Lends `room` entries of an output full of 7 and `work` entries of seven work buffers full of 9.
-fn try_split(vertices: u64, list: &[u16], room: usize, work: usize)
-    requires { ⌜ room ≤ 49 ⌝ }
+// One triangle with just enough room in each buffer, 12 entries of output and 6 of work, and then, for refusal 5, with
+// one entry less in each in turn.
+fn try_rooms() {
+    let mut short = 0;
+    while short < 9 {
+        try_lent(3, &[0, 1, 2], 12, 6, short);
+        short += 1;
+    }
+}
+
+// Lends more room than a tetrahedron needs, which is 48 entries of output and 16 of work.
+fn try_split(vertices: u64, list: &[u16]) {
+    try_lent(vertices, list, 49, 32, 0);
+}
+
+// Lends `corners` entries of an output full of 7 and `work` entries of seven work buffers full of 9. Buffer number
+// `short`, counted from 1 in the order of the call, has one entry less.
+fn try_lent(vertices: u64, list: &[u16], corners: usize, work: usize, short: usize)
+    requires { ⌜ corners ≤ 49 ⌝ }
     requires { ⌜ work ≤ 32 ⌝ }
 {
     let mut out: [u16; 49] = [7; 49];
@@ -61,15 +69,28 @@ fn try_split(vertices: u64, list: &[u16], room: usize, work: usize)
     split_and_print(
         vertices,
         list,
-        &mut out[..room],
-        &mut work1[..work],
-        &mut work2[..work],
-        &mut work3[..work],
-        &mut work4[..work],
-        &mut work5[..work],
-        &mut work6[..work],
-        &mut work7[..work],
+        &mut out[..room(corners, 1, short)],
+        &mut work1[..room(work, 2, short)],
+        &mut work2[..room(work, 3, short)],
+        &mut work3[..room(work, 4, short)],
+        &mut work4[..room(work, 5, short)],
+        &mut work5[..room(work, 6, short)],
+        &mut work6[..room(work, 7, short)],
+        &mut work7[..room(work, 8, short)],
     );
+}
+
+// How many entries of buffer number `buffer` are lent: `entries`, or one less if it is the short one.
+fn room(entries: usize, buffer: usize, short: usize) -> usize
+    ensures { λ r. ⌜ r ≤ entries ⌝ }
+{
+    if buffer != short {
+        return entries;
+    }
+    if entries == 0 {
+        return 0;
+    }
+    entries - 1
 }
 
 // Calls `flatcarol_split` and prints what comes of it.

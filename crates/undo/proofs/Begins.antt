@@ -10,10 +10,10 @@ use Rattle.theory.proofs.Tiles.{IsTile, Start, own, beside}
 use Rattle.lists.specs.Tables.{Tabulated}
 use Rattle.lists.proofs.Lists.{by-eq, by-lt}
 use Rattle.mesh.specs.Tables.{owner}
-use Rattle.undo.specs.Tiles.{RowsOf}
-use Rattle.undo.specs.Starts.{tileOf, startOf}
+use Rattle.tiles.specs.Tiles.{RowsOf}
+use Rattle.tiles.specs.Starts.{tileOf, startOf}
+use Rattle.tiles.proofs.Starts.{tileOf-different, tileOf-equal, startOf-own, startOf-beside, startOf-none}
 use Rattle.undo.proofs.Covers.{Tabled, facing, mate-start, start-mate, differ-tile, tile-differ}
-use Rattle.undo.proofs.Starts.{tileOf-different, tileOf-equal, startOf-own, startOf-beside, startOf-none}
 
 -- The start of role ρ, a tile; or F, where no start is a tile.
 pub data Begun (T : List ℕ) (F ρ : ℕ) : ℕ → Type 0 where

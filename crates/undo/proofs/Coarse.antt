@@ -24,8 +24,8 @@ use Rattle.lists.specs.Tables.{Tabulated}
 use Rattle.mesh.specs.Faults.{UsedMark, used, unused, UsedMarks}
 use Rattle.mesh.specs.Reached.{Joins, Different, Corners, different, equal, Marked}
 use Rattle.mesh.proofs.Joins.{reach-joins, joins-reach}
-use Rattle.undo.specs.Selected.{Selected}
-use Rattle.undo.specs.Claims.{Claimed}
+use Rattle.tiles.specs.Selected.{Selected}
+use Rattle.tiles.specs.Claims.{Claimed}
 
 -- ---- the tables
 
@@ -293,7 +293,7 @@ module _ {N F : ℕ} {T W : List ℕ} {s : ℕ} {first marks : List ℕ} (S : Se
     tables-marks = inRow-marks (B .tiles) (B .rows) (B .keeps)
 
     -- the reached rows and their vertices are numbered upward
-    pub tables-ranked : Ranked N T W s M F′ rank tile
+    pub tables-ranked : Ranked W s M F′ rank tile
     tables-ranked = record {
       rankBelow = ranks-below tables-marks (B .ranks);
       rankUpward = ranks-upward tables-marks (B .ranks);
@@ -318,6 +318,6 @@ module _ {N F : ℕ} {T W : List ℕ} {s : ℕ} {first marks : List ℕ} (S : Se
         ∙ ap (at rank) (selected-at (B .tiles) (B .rows) k i q b)
 
     -- so it is built
-    pub tables-built : Built N T W s M C rank tile
+    pub tables-built : Built W s M C rank tile
     tables-built =
         record { ranked = rw coarse-triangles tables-ranked; whole = omega (arith, B .whole); rows = coarse-at }

@@ -17,7 +17,7 @@ use Rattle.mesh.specs.Tables.{owner}
 use Rattle.mesh.specs.Reached.{step}
 use Rattle.mesh.proofs.Firsts.{sameEdge-first}
 use Rattle.mesh.proofs.Joins.{reach-joins}
-use Rattle.undo.specs.Selected.{selectedHalf, FirstsOf}
+use Rattle.tiles.specs.Selected.{selectedHalf, FirstsOf}
 use Rattle.undo.proofs.Coarse.{Searched, Tables, rows-whole, reach-inside, reach-marked, joins-reached}
 use Rattle.undo.proofs.Coarse.{entry-inRow, tile-below, by-tile, tables-ranked, rank-apart, coarse-at}
 

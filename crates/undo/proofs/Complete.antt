@@ -18,8 +18,8 @@ use Rattle.theory.proofs.Complete.{built-found, found-vertices, found-triangles
 use Rattle.lists.specs.Keys.{Scattered}
 use Rattle.lists.specs.Marks.{marked}
 use Rattle.lists.specs.Tables.{Tabulated}
-use Rattle.undo.specs.Selected.{Selected}
-use Rattle.undo.specs.Claims.{Claimed}
+use Rattle.tiles.specs.Selected.{Selected}
+use Rattle.tiles.specs.Claims.{Claimed}
 use Rattle.undo.proofs.Coarse.{Searched, Tables, AcrossOnly, Sources, Held, Tested}
 use Rattle.undo.proofs.Coarse.{reach-inside, reach-marked, marked-reach}
 use Rattle.undo.proofs.Coarse.{across-other, by-tile, by-four, selected-at, claimed-centre, claimed-corner}

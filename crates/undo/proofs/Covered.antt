@@ -8,7 +8,7 @@ use lib.Seq.{length-take-le}
 use Rattle.lists.specs.Tables.{Tabulated}
 use Rattle.mesh.specs.Tables.{third, owner, EdgesLent, EdgeTable}
 use Rattle.mesh.proofs.Firsts.{first-le, first-own}
-use Rattle.undo.specs.Tiles.{MatesLent, Mated, RowsOf}
+use Rattle.tiles.specs.Tiles.{MatesLent, Mated, RowsOf}
 use Rattle.undo.specs.Cover.{CoverLent, CoverMade}
 use Rattle.undo.proofs.Covers.{Tabled, rows-listed}
 

@@ -24,8 +24,8 @@ use Rattle.mesh.specs.Reached.{Corners, different, equal}
 use Rattle.mesh.proofs.Firsts.{first-sameEdge, sameEdge-first}
 use Rattle.mesh.proofs.Sides.{far, corner-on, End, end, otherEnd, end-moved, sameEdge-hasEdge}
 use Rattle.mesh.proofs.Sides.{Side, edge-side, side-third}
-use Rattle.undo.specs.Tiles.{Mates, Mate, across, none, Mated, opposite, HasRow, RowOf, RowsOf}
-use Rattle.undo.specs.Tiles.{tile as hasRow, flat as hasNone}
+use Rattle.tiles.specs.Tiles.{Mates, Mate, across, none, Mated, opposite, HasRow, RowOf, RowsOf}
+use Rattle.tiles.specs.Tiles.{tile as hasRow, flat as hasNone}
 
 -- a mesh of F triangles, but for being connected, with its tables: first half-edges, mates, third vertices
 pub record Tabled (N F : ℕ) (T first mate thirds : List ℕ) : Type 0 where

@@ -1,28 +1,23 @@
 -- The roles that are tried one after the other: what each is lent, what a turn of the loop of `least_role` keeps, and
--- what the roles come to.
+-- what the roles come to; then the role that is asked for.
 use Prim.Native.Nat.{ℕ, _+_, _*_, _≤_, _<_}
 use native.Mathlib.Omega.{arith}
 use mathlib.Core.Path.{_≡_, refl, sym, _∙_}
+use mathlib.Core.Logic.{_≢_}
 use mathlib.Core.Bool.{Bool, true, false, true≢false}
 use mathlib.Core.List.{List}
 use lib.ListN.{length, take}
 use Rattle.theory.specs.Mesh.{Same}
-use Rattle.theory.specs.Reading.{Reading, ReadingIn, Returned, RoleOf, centre, corner}
+use Rattle.theory.specs.Reading.{ReadingIn, Returned}
+use Rattle.theory.specs.Choice.{named, least}
+use Rattle.theory.proofs.Determined.{role-within, returned-in}
 use Rattle.lists.proofs.Lists.{by-lt}
 use Rattle.undo.specs.Tried.{Rooms, RoleLent, TriedRole, found as roleFound, none as roleNone}
 use Rattle.undo.specs.Least.{LeastTried, found, none}
+use Rattle.undo.specs.Choices.{ChoiceLent, ChosenTried, found as chosenFound, none as chosenNone}
 use Rattle.undo.proofs.Tries.{rooms-kept}
 
 -- ---- roles
-
--- a role is at most 3
-role-within : {T : List ℕ} {r : Reading} {k role : ℕ} → RoleOf T r k role → role ≤ 3
-role-within (centre _) = omega arith
-role-within (corner i l _ _) = omega arith
-
--- a returned reading is a reading in its role
-returned-in : {N role : ℕ} {T : List ℕ} {r : Reading} → Returned Same N T role r → ReadingIn Same N T role
-returned-in {r = r} R = record { reading = r; is = R .is; inRole = R .inRole }
 
 -- a tried role that is found has the returned reading
 tried-returned : {role N F : ℕ} {T coarse map faces : List ℕ} {answer : Bool} {M n : ℕ}
@@ -43,7 +38,7 @@ tried-refuted (roleFound _) e = absurd (true≢false e)
 tried-refuted (roleNone refuted) _ = refuted
 
 -- where there is room, what one role is lent any other is lent
-pub lent-anew : {role role′ N F : ℕ} {T mate rows first link owners : List ℕ}
+lent-anew : {role role′ N F : ℕ} {T mate rows first link owners : List ℕ}
     {marks coarse numbers map faces table marks′ coarse′ numbers′ map′ faces′ table′ : List ℕ}
     → RoleLent role N F T mate rows first link owners marks coarse numbers map faces table → role′ ≤ 3
     → Rooms (N + 3 * F) marks′ coarse′ numbers′ map′ faces′ table′
@@ -54,6 +49,7 @@ lent-anew L l room = record {
   whole = L .whole;
   some = L .some;
   small = L .small;
+  halves = L .halves;
   firstT = L .firstT;
   thirds = L .thirds;
   firsts = L .firsts;
@@ -155,11 +151,37 @@ module _ {N F : ℕ} {T mate rows first link owners marks₀ coarse₀ numbers�
     }
 
     -- the first role that has a reading is the least
-    pub least : {coarse′ map′ faces′ : List ℕ} {answer : Bool} {M n : ℕ}
+    pub found-least : {coarse′ map′ faces′ : List ℕ} {answer : Bool} {M n : ℕ}
         → TriedRole role N F T coarse′ map′ faces′ answer M n → answer ≡ true
         → LeastTried N F T coarse′ map′ faces′ role M n
-    least t e = found (record { has = returned-in (tried-returned t e); before = I .before }) (tried-returned t e)
+    found-least t e =
+        found (record { has = returned-in (tried-returned t e); before = I .before }) (tried-returned t e)
 
     -- after the last turn no role has a reading
     pub no-role : 4 ≤ role → {coarse′ map′ faces′ : List ℕ} {M n : ℕ} → LeastTried N F T coarse′ map′ faces′ 4 M n
     no-role l = none (record { none = λ role′ R. I .before role′ (omega (arith, role-within (R .inRole))) R })
+
+-- ---- the role that is asked for
+
+-- asked 4, it is the least role
+pub asked-least : {asked N F : ℕ} {T coarse map faces : List ℕ} {role M n : ℕ} → asked ≡ 4
+    → LeastTried N F T coarse map faces role M n → ChosenTried asked N F T coarse map faces role M n
+asked-least e (found L R) = rw e (chosenFound (least L) R)
+asked-least e (none L) = rw e (chosenNone (least L))
+
+module _ {asked N F : ℕ} {T mate rows first link owners marks coarse numbers map faces table : List ℕ}
+    (L : ChoiceLent asked N F T mate rows first link owners marks coarse numbers map faces table)
+    (other : asked ≢ 4) where
+  -- asked another number, it is one of the roles, so that it can be tried
+  pub asked-triable : RoleLent asked N F T mate rows first link owners marks coarse numbers map faces table
+  asked-triable = lent-anew (L .lent) (omega (arith, L .known)) (L .lent .rooms)
+
+  module _ {coarse′ map′ faces′ : List ℕ} {answer : Bool} {M n : ℕ}
+      (t : TriedRole asked N F T coarse′ map′ faces′ answer M n) where
+    -- and it is chosen if it has a reading
+    pub asked-found : answer ≡ true → ChosenTried asked N F T coarse′ map′ faces′ asked M n
+    asked-found e = chosenFound (named (asked-triable .isRole) (returned-in (tried-returned t e))) (tried-returned t e)
+
+    -- and else none is
+    pub asked-none : answer ≡ false → {M′ n′ : ℕ} → ChosenTried asked N F T coarse′ map′ faces′ 4 M′ n′
+    asked-none e = chosenNone (named (asked-triable .isRole) (tried-refuted t e))

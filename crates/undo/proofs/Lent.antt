@@ -8,12 +8,12 @@ use lib.ListN.{length}
 use Rattle.theory.specs.Mesh.{at, Reach}
 use Rattle.theory.specs.Splitting.{split}
 use Rattle.theory.proofs.Finite.{injective-onto}
+use Rattle.theory.proofs.Heart.{split-different}
 use Rattle.theory.proofs.Mesh.{on-triangle}
 use Rattle.theory.proofs.Tiles.{row-different}
 use Rattle.lists.specs.Marks.{RanksOf}
-use Rattle.undo.specs.Claims.{Claimed}
-use Rattle.undo.specs.Selected.{Selected}
-use Rattle.undo.proofs.SplitApart.{split-apart}
+use Rattle.tiles.specs.Claims.{Claimed}
+use Rattle.tiles.specs.Selected.{Selected}
 use Rattle.undo.proofs.Coarse.{Searched, Tables, AcrossOnly, Held}
 use Rattle.undo.proofs.Coarse.{reach-inside, reach-tile, entry-inRow, inRow-below}
 use Rattle.undo.proofs.Coarse.{across-other, by-tile, by-four, selected-at, claimed-centre, claimed-corner}
@@ -84,4 +84,4 @@ module _ {N F : ℕ} {T W : List ℕ} {s : ℕ} {first marks : List ℕ} (S : Se
     -- and so have the triangles of its splitting
     pub splitting-different : (c d : ℕ) → c < length (split M C) → d < length (split M C) → c / 3 ≡ d / 3
         → at (split M C) c ≡ at (split M C) d → c ≡ d
-    splitting-different = split-apart M C (omega (arith, B .whole)) coarse-below coarse-different
+    splitting-different = split-different M C (omega (arith, B .whole)) coarse-different coarse-below

@@ -15,8 +15,8 @@ use Rattle.theory.proofs.Tiles.{InRow}
 use Rattle.theory.proofs.Built.{Found}
 use Rattle.lists.specs.Tables.{Tabulated}
 use Rattle.lists.proofs.Lists.{at-take}
-use Rattle.undo.specs.Selected.{Selected}
-use Rattle.undo.specs.Claims.{Claimed}
+use Rattle.tiles.specs.Selected.{Selected}
+use Rattle.tiles.specs.Claims.{Claimed}
 use Rattle.undo.proofs.Coarse.{Searched, Tables, AcrossOnly, Sources, Held, Tested}
 use Rattle.undo.proofs.Coarse.{reach-inside, reach-tile, inRow-below, tile-below, selected-at}
 use Rattle.undo.proofs.Coarse.{claimed-centre, claimed-corner, inRow-selected}

@@ -10,8 +10,8 @@ use Rattle.lists.specs.Tables.{Tabulated}
 use Rattle.lists.proofs.Lists.{at-take}
 use Rattle.mesh.specs.Tables.{owner}
 use Rattle.mesh.proofs.Firsts.{first-le, first-own}
-use Rattle.undo.specs.Selected.{Selected}
-use Rattle.undo.specs.Role.{CoarseTables, OwnFirsts}
+use Rattle.tiles.specs.Selected.{Selected}
+use Rattle.stages.specs.Role.{CoarseTables, OwnFirsts}
 use Rattle.undo.proofs.Coarse.{Searched, Tables}
 use Rattle.undo.proofs.CoarseEdges.{firsts-coarse}
 

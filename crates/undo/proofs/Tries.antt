@@ -21,11 +21,11 @@ use Rattle.lists.specs.Tables.{Tabulated}
 use Rattle.lists.proofs.Lists.{at-take}
 use Rattle.mesh.proofs.Firsts.{first-le, first-own}
 use Rattle.split.proofs.Numbering.{numbered-edgeNo, numbered-edges}
-use Rattle.undo.specs.Starts.{startOf}
-use Rattle.undo.specs.Selected.{Selected}
-use Rattle.undo.specs.Role.{FindLent, Gathered, TilesFound, nowhere, uneven, quarter}
-use Rattle.undo.specs.Role.{NumberTilesLent, AddedUp, even, odd, CoarseNumbered}
-use Rattle.undo.specs.Maps.{VerticesLent, VerticesMapped, TrianglesLent, TrianglesMapped, AllLent, AllCompared}
+use Rattle.tiles.specs.Starts.{startOf}
+use Rattle.tiles.specs.Selected.{Selected}
+use Rattle.stages.specs.Role.{FindLent, Gathered, TilesFound, nowhere, uneven, quarter}
+use Rattle.stages.specs.Role.{NumberTilesLent, AddedUp, even, odd, CoarseNumbered}
+use Rattle.stages.specs.Maps.{VerticesLent, VerticesMapped, TrianglesLent, TrianglesMapped, AllLent, AllCompared}
 use Rattle.undo.specs.Tried.{Rooms, RoleLent, TriedRole, none}
 use Rattle.undo.proofs.Begins.{Begun, starts, nowhere as begunNowhere, start-begun}
 use Rattle.undo.proofs.Coarse.{Searched, Tables, AcrossOnly, Sources, Held, Tested, tables-built}
@@ -142,7 +142,7 @@ module _ {role N F : ℕ} {T mate rows first link owners marks₀ coarse₀ numb
   pub findable : FindLent F mate rows first link owners marks₀ faces₀ map₀ table₀
   findable = record {
     some = L .some;
-    small = omega (arith, L .small);
+    small = L .halves;
     mateRoom = L .mateRoom;
     rowsRoom = L .rowsRoom;
     firstRoom = L .firstRoom;
@@ -221,6 +221,7 @@ module _ {role N F : ℕ} {T mate rows first link owners marks₀ coarse₀ numb
       numberable = record {
         quarter = P .quarter;
         small = L .small;
+        halves = L .halves;
         firstRoom = L .firstRoom;
         ownersRoom = L .ownersRoom;
         marksRoom = omega (arith, room .marksRoom);
@@ -258,7 +259,7 @@ module _ {role N F : ℕ} {T mate rows first link owners marks₀ coarse₀ numb
       pub claimable : TrianglesLent F mate owners marks kept table
       claimable = record {
         claims = record {
-          small = omega (arith, L .small);
+          small = L .halves;
           marksRoom = omega (arith, room .marksRoom);
           mateRoom = L .mateRoom;
           ownerRoom = L .ownersRoom;

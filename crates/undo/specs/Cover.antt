@@ -8,7 +8,7 @@ use Rattle.theory.specs.Mesh.{OtherwiseProper}
 use Rattle.theory.specs.Splitting.{firstOn}
 use Rattle.lists.specs.Tables.{Tabulated}
 use Rattle.mesh.specs.Tables.{third, owner, Work, EdgeTable}
-use Rattle.undo.specs.Tiles.{Mated, RowsOf}
+use Rattle.tiles.specs.Tiles.{Mated, RowsOf}
 
 -- What `cover` is lent: a mesh of F triangles on N vertices, proper but for being connected, its edge table, and room.
 pub record CoverLent (N F : ℕ) (T first link mate tiles owners work1 work2 work3 work4 : List ℕ) : Type 0 where

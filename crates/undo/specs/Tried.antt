@@ -10,7 +10,7 @@ use Rattle.theory.specs.Reading.{ReadingIn, Returned}
 use Rattle.lists.specs.Chains.{Nearest}
 use Rattle.lists.specs.Tables.{Tabulated}
 use Rattle.mesh.specs.Tables.{third, owner}
-use Rattle.undo.specs.Tiles.{Mated, RowsOf}
+use Rattle.tiles.specs.Tiles.{Mated, RowsOf}
 
 -- Room in each of the buffers.
 pub record Rooms (size : ℕ) (marks coarse numbers map faces table : List ℕ) : Type 0 where
@@ -30,7 +30,8 @@ pub record RoleLent (role N F : ℕ) (T mate rows first link owners marks coarse
   pub proper : Proper N T
   pub whole : length T ≡ 3 * F
   pub some : 0 < F
-  pub small : N + 3 * F < 65536
+  pub small : N + F < 65536
+  pub halves : 3 * F < 65536
   pub firstT : List ℕ
   pub thirds : List ℕ
   pub firsts : Tabulated (firstOn T) (3 * F) firstT

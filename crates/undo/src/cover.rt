@@ -1,9 +1,9 @@
 // The tables that all roles of an undo share: the mates of half-edges, the covering mesh and its edge table.
-use super::tiles::mates;
-use super::tiles::rows;
 use mesh::edges::edge_table;
 use mesh::ends::owners;
 use mesh::ends::third_vertices;
+use tiles::tiles::mates;
+use tiles::tiles::rows;
 ghost use Rattle.undo.specs.Cover.{CoverLent, CoverMade};
 
 // Makes the covering mesh of a proper mesh, whose edge table stands in `first` and `link`: the mates go to `mate`, the

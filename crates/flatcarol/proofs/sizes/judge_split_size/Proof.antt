@@ -7,9 +7,9 @@ use mathlib.Core.List.{[], _∷_}
 use borrow.Author.Needs.{needs}
 use Rattle.theory.specs.Limits.{mostSplitTriangles}
 use Rattle.theory.specs.Refusals.{Short}
-use Rattle.mesh.specs.Judged.{Judged, sizeRules}
-use Rattle.mesh.proofs.Judgement.{judged-none, judged-front, judged-back}
-use Rattle.mesh.proofs.Sized.{judged-at-0, judged-not, Sized, sized, size-passed}
+use Rattle.limits.specs.Judged.{Judged, sizeRules}
+use Rattle.limits.proofs.Judgement.{judged-none, judged-front, judged-back}
+use Rattle.limits.proofs.Sized.{judged-at-0, judged-not, Sized, sized, size-passed}
 use Rattle.flatcarol.specs.Sizes.{splitSizeRules}
 use Rattle.flatcarol.proofs.sizes.judge_split_size.Statement.{statement}
 use Rattle.flatcarol.proofs.sizes.judge_split_size.Tie as tie

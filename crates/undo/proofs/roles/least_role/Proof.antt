@@ -3,7 +3,7 @@
 -- roles that are left.
 use native.Mathlib.Omega.{arith}
 use Prim.Native.Nat.{_-_}
-use Rattle.undo.proofs.Least.{SameLengths, Turn, begun, triable, lengths-kept, turned, least, no-role}
+use Rattle.undo.proofs.Least.{SameLengths, Turn, begun, triable, lengths-kept, turned, found-least, no-role}
 use Rattle.undo.proofs.roles.least_role.Statement.{statement}
 use Rattle.undo.proofs.roles.least_role.Tie as tie
 
@@ -93,7 +93,7 @@ same-length-6 c =
 returns : tie.Need-returns Inv-loop μ-loop
 returns c =
     let t = trying (c .before) in
-    least (turn t .before .loop .inv) (t .try-role .ensures) (c .if1 .taken)
+    found-least (turn t .before .loop .inv) (t .try-role .ensures) (c .if1 .taken)
 
 add-role : tie.Need-add-role Inv-loop μ-loop
 add-role c = omega arith

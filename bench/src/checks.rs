@@ -1,0 +1,174 @@
+// Both versions give the answers that a third way gives, on every mesh that is measured, and each refusal once: so both do the
+// work, and the judging, that the times are to include.
+use crate::cases::{split_buffers, undo_one_buffers, LEAST, LENT, NAMES, SPLITS, UNDO_ONES};
+use crate::library::{Answer, OneAnswer, OneOutputs};
+use crate::meshes::{self, splitting, Mesh, FINE_TRIANGLES, TRIANGLES};
+
+pub fn check_all() {
+    check_one_triangle();
+    check_mesh_refusals();
+    check_other_refusals();
+    meshes::to_split().iter().for_each(check_split);
+    meshes::to_undo().iter().for_each(check_undo_one);
+}
+
+// The splitting of one triangle and its undoing, worked by hand.
+fn check_one_triangle() {
+    let (coarse, fine) = ([2, 0, 1], [3, 4, 5, 2, 3, 5, 0, 4, 3, 1, 5, 4]);
+    let reading = OneOutputs { mesh: coarse.into(), vertex_map: vec![0, 1, 2, 3, 4, 5], triangle_map: vec![0, 1, 2, 3] };
+    for version in [0, 1] {
+        let what = format!("{} on one triangle", NAMES[version]);
+        let (mut out, mut work) = split_buffers(3, &coarse);
+        let answer = SPLITS[version](3, &coarse, &mut out, &mut work);
+        assert_eq!(answer, Answer { refusal: 0, place: 0, vertices: 6, triangles: 4 }, "{what}");
+        assert_eq!(out, fine, "{what}");
+
+        let (mut out, mut work) = undo_one_buffers(6, &fine);
+        let answer = UNDO_ONES[version](6, &fine, LEAST, &mut out, &mut work);
+        assert_eq!(answer, OneAnswer { refusal: 0, place: 0, vertices: 3, triangles: 1, role: 0 }, "{what}");
+        assert_eq!(out, reading, "{what}");
+    }
+}
+
+// What both calls judge in the same way, but for the most triangles that they take. Undo one then has no reading of a mesh that
+// passes.
+fn check_mesh_refusals() {
+    let large = |most: usize| [0, 1, 2].repeat(most + 1);
+    let cases: [(u64, &[u16], u64, u64); 9] = [
+        (3, &[0, 1, 2, 0], 2, 0),
+        (3, &[], 3, 0),
+        (32_768, &[0, 1, 2], 4, 0),
+        (4, &[0, 1, 2, 1, 2, 4], 6, 1),
+        (4, &[0, 1, 2, 3, 1, 3], 7, 1),
+        (4, &[0, 1, 2, 1, 2, 3, 2, 1, 0], 8, 2),
+        (5, &[0, 1, 2, 1, 2, 4], 9, 3),
+        (9, &[0, 1, 2, 3, 2, 1, 4, 5, 6, 2, 7, 8], 10, 2),
+        (4, &[0, 1, 2, 3, 2, 1], 0, 0),
+    ];
+    for version in [0, 1] {
+        for (vertices, list, refusal, place) in cases.into_iter().chain([(3, &large(TRIANGLES)[..], 4, 0)]) {
+            let (mut out, mut work) = split_buffers(vertices as usize, list);
+            let answer = SPLITS[version](vertices, list, &mut out, &mut work);
+            assert_eq!((answer.refusal, answer.place), (refusal, place), "{} split {vertices}, {list:?}", NAMES[version]);
+            assert!(refusal == 0 || out.iter().all(|&entry| entry == LENT), "{}: refusal {refusal} writes", NAMES[version]);
+            assert!(work.iter().flatten().all(|&entry| entry == 0), "{}: refusal {refusal} leaves work", NAMES[version]);
+        }
+        for (vertices, list, refusal, place) in cases.into_iter().chain([(3, &large(FINE_TRIANGLES)[..], 4, 0)]) {
+            let refusal = if refusal == 0 { 11 } else { refusal };
+            check_undo_one_refused(version, vertices, list, LEAST, (refusal, place));
+        }
+    }
+}
+
+// 1, the room that 5 is about, and 11 in a role that is asked where another role has a reading.
+fn check_other_refusals() {
+    let (vertices, list) = splitting(3, &[0, 1, 2]);
+    for version in [0, 1] {
+        let name = NAMES[version];
+        check_undo_one_refused(version, vertices as u64, &list, LEAST + 1, (1, 0));
+        for role in 1..4 {
+            check_undo_one_refused(version, vertices as u64, &list, role, (11, 0));
+        }
+
+        let (mut out, mut work) = split_buffers(3, &[0, 1, 2]);
+        assert_eq!(SPLITS[version](3, &[0, 1, 2], &mut out[..11], &mut work).refusal, 5, "{name} on a short output");
+        work[6].pop();
+        assert_eq!(SPLITS[version](3, &[0, 1, 2], &mut out, &mut work).refusal, 5, "{name} on a short work buffer");
+
+        for short in 0..4 {
+            let (mut out, mut work) = undo_one_buffers(vertices, &list);
+            [&mut out.mesh, &mut out.vertex_map, &mut out.triangle_map, &mut work[10]][short].pop();
+            let answer = UNDO_ONES[version](vertices as u64, &list, LEAST, &mut out, &mut work);
+            assert_eq!(answer.refusal, 5, "{name}: buffer {short} of undo one is short");
+        }
+    }
+}
+
+fn check_undo_one_refused(version: usize, vertices: u64, list: &[u16], asked: u64, (refusal, place): (u64, u64)) {
+    let what = format!("{} undo one, asked {asked}, of {vertices} vertices, {} triangles", NAMES[version], list.len() / 3);
+    let (mut out, mut work) = undo_one_buffers(vertices as usize, list);
+    let before = out.clone();
+    let answer = UNDO_ONES[version](vertices, list, asked, &mut out, &mut work);
+    assert_eq!(answer, OneAnswer { refusal, place, vertices: 0, triangles: 0, role: 0 }, "{what}");
+    assert!(out == before, "{what}: a refusal writes");
+    assert!(work.iter().flatten().all(|&entry| entry == 0), "{what}: a work buffer is not cleared");
+}
+
+fn check_split(mesh: &Mesh) {
+    let (vertices, expected) = splitting(mesh.vertices, &mesh.list);
+    for version in [0, 1] {
+        let what = format!("{} on {}, {}", NAMES[version], mesh.name, mesh.order);
+        let (mut out, mut work) = split_buffers(mesh.vertices, &mesh.list);
+        let answer = SPLITS[version](mesh.vertices as u64, &mesh.list, &mut out, &mut work);
+        let triangles = expected.len() as u64 / 3;
+        assert_eq!(answer, Answer { refusal: 0, place: 0, vertices: vertices as u64, triangles }, "{what}");
+        assert!(out == expected, "{what}: another output");
+        assert!(work.iter().flatten().all(|&entry| entry == 0), "{what}: a work buffer is not cleared");
+    }
+}
+
+// A mesh that no splitting made is refused, whatever is asked. Any other is undone, and refused in the roles before the least.
+fn check_undo_one(mesh: &Mesh) {
+    let kept = kept(mesh);
+    for version in [0, 1] {
+        let refused = if kept.is_empty() { 0..LEAST + 1 } else { 0..check_undone(version, mesh, &kept) };
+        for asked in refused {
+            check_undo_one_refused(version, mesh.vertices as u64, &mesh.list, asked, (11, 0));
+        }
+    }
+}
+
+// In the role that the splitting gave to triangle 0 the mesh that was split comes back. Answers the least role that has a reading,
+// which may be another.
+fn check_undone(version: usize, mesh: &Mesh, kept: &[u16]) -> u64 {
+    let role = role(&mesh.list, |vertex| kept.contains(vertex));
+    let coarse = mesh.coarse.iter().flatten().flatten();
+    // Its triangles in the order of their centres, its vertices in the order of their numbers.
+    let expected: Vec<u16> = coarse.map(|corner| kept.binary_search(corner).unwrap() as u16).collect();
+    let (answer, out) = undo_one_accepted(version, mesh, role);
+    assert_eq!((answer.role, answer.vertices), (role, kept.len() as u64), "{} on {}, {}", NAMES[version], mesh.name, mesh.order);
+    assert!(out.mesh == expected, "{} on {}, {}: another coarse mesh", NAMES[version], mesh.name, mesh.order);
+    let least = undo_one_accepted(version, mesh, LEAST).0.role;
+    assert!(least <= role, "{} on {}, {}: not the least role", NAMES[version], mesh.name, mesh.order);
+    least
+}
+
+// Undoes a mesh and checks the reading: the coarse mesh, split anew, is the input under the maps, which leave nothing out.
+fn undo_one_accepted(version: usize, mesh: &Mesh, asked: u64) -> (OneAnswer, OneOutputs) {
+    let what = format!("{} on {}, {}, asked {asked}", NAMES[version], mesh.name, mesh.order);
+    let (mut out, mut work) = undo_one_buffers(mesh.vertices, &mesh.list);
+    let answer = UNDO_ONES[version](mesh.vertices as u64, &mesh.list, asked, &mut out, &mut work);
+    assert_eq!((answer.refusal, answer.place, answer.triangles), (0, 0, mesh.list.len() as u64 / 12), "{what}");
+    assert!(work.iter().flatten().all(|&entry| entry == 0), "{what}: a work buffer is not cleared");
+
+    let (vertices, fours) = splitting(answer.vertices as usize, &out.mesh);
+    assert_eq!(vertices, mesh.vertices, "{what}: another number of vertices");
+    for map in [&out.vertex_map, &out.triangle_map] {
+        let mut numbers = map.clone();
+        numbers.sort();
+        assert!(numbers.into_iter().eq(0..map.len() as u16), "{what}: a map does not take each number once");
+    }
+    for (t, &number) in mesh.list.chunks_exact(3).zip(&out.triangle_map) {
+        let mut corners = [t[0], t[1], t[2]].map(|corner| out.vertex_map[corner as usize]);
+        let mut expected: [u16; 3] = fours[3 * number as usize..][..3].try_into().unwrap();
+        corners.sort();
+        expected.sort();
+        assert_eq!(corners, expected, "{what}: a triangle is not that of the splitting");
+    }
+    let is_kept = |&vertex: &u16| (out.vertex_map[vertex as usize] as u64) < answer.vertices;
+    assert_eq!(answer.role, role(&mesh.list, is_kept), "{what}: another role than that of triangle 0");
+    (answer, out)
+}
+
+// The vertices of the mesh that was split, by their numbers in its splitting, in order.
+fn kept(mesh: &Mesh) -> Vec<u16> {
+    let mut kept: Vec<u16> = mesh.coarse.iter().flatten().flatten().copied().collect();
+    kept.sort();
+    kept.dedup();
+    kept
+}
+
+// The role of triangle 0: 0 if it is a centre, or 1, 2, 3 if its first, second or third corner is kept.
+fn role(list: &[u16], is_kept: impl Fn(&u16) -> bool) -> u64 {
+    list[..3].iter().position(is_kept).map_or(0, |corner| corner as u64 + 1)
+}

@@ -1,0 +1,2 @@
+-- The judgement by rows of the table of refusals.
+pub mod Judged

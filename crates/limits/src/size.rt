@@ -1,0 +1,57 @@
+// Refusals 1 to 4, which are judged from numbers alone.
+use super::limits::Limits;
+ghost use mathlib.Core.List.{[], _∷_};
+ghost use Rattle.theory.specs.Limits.{mostTriangles, mostSplitTriangles, mostLevels};
+ghost use Rattle.theory.specs.Refusals.{askedTooMuch};
+ghost use Rattle.limits.specs.Judged.{Judged, sizeRules};
+
+// 1 of a number of levels asked; 0 where it is not given.
+pub fn judge_levels(asked: u64) -> u64
+    ensures { λ r. ⌜ Judged (askedTooMuch mostLevels asked ∷ []) r 0 ⌝ }
+{
+    judge_asked(Limits::LEVELS, asked)
+}
+
+// The same of any number asked, where `most` is allowed.
+pub fn judge_asked(most: u64, asked: u64) -> u64
+    ensures { λ r. ⌜ Judged (askedTooMuch most asked ∷ []) r 0 ⌝ }
+{
+    if most < asked {
+        return 1;
+    }
+    0
+}
+
+// 2, 3 and 4 of a mesh to split, whose list has so many entries; 0 where none is given.
+pub fn judge_size_to_split(vertices: u64, entries: usize) -> u64
+    ensures { λ r. ⌜ Judged (sizeRules mostSplitTriangles vertices entries) r 0 ⌝ }
+{
+    judge_size(Limits::SPLIT_TRIANGLES, vertices, entries)
+}
+
+// The same of a mesh to undo.
+pub fn judge_size_to_undo(vertices: u64, entries: usize) -> u64
+    ensures { λ r. ⌜ Judged (sizeRules mostTriangles vertices entries) r 0 ⌝ }
+{
+    judge_size(Limits::TRIANGLES, vertices, entries)
+}
+
+// The same where `most` triangles are allowed.
+fn judge_size(most: u64, vertices: u64, entries: usize) -> u64
+    ensures { λ r. ⌜ Judged (sizeRules most vertices entries) r 0 ⌝ }
+{
+    if entries % 3 != 0 {
+        return 2;
+    }
+    let triangles = entries / 3;
+    if triangles == 0 {
+        return 3;
+    }
+    if most < triangles as u64 {
+        return 4;
+    }
+    if Limits::VERTICES < vertices {
+        return 4;
+    }
+    0
+}

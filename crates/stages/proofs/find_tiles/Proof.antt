@@ -1,0 +1,180 @@
+-- `stages::find_tiles` meets its contract: what is reached from the start is marked, and the rows of the marked
+-- triangles are selected and counted.
+use native.Mathlib.Omega.{arith}
+use Prim.Native.Nat.{ℕ, _*_, _%_, _≤_, _<_}
+use mathlib.Core.Path.{_≡_, refl, sym, _∙_}
+use mathlib.Core.Logic.{_≢_}
+use mathlib.Core.List.{List}
+use borrow.Author.Needs.{needs}
+use Rattle.theory.specs.Mesh.{at}
+use Rattle.theory.proofs.Counting.{count-le}
+use Rattle.lists.specs.Marks.{marked}
+use Rattle.lists.proofs.Lists.{by-eq, by-lt}
+use Rattle.mesh.specs.Reached.{ReachLent, Marked}
+use Rattle.tiles.specs.Starts.{StartLent, startOf}
+use Rattle.tiles.specs.Selected.{Selected}
+use Rattle.tiles.proofs.Starts.{tileOf-within, startOf-own, startOf-beside, startOf-none}
+use Rattle.stages.specs.Role.{FindLent, Gathered, nowhere, uneven, quarter}
+use Rattle.stages.proofs.find_tiles.Statement.{statement}
+use Rattle.stages.proofs.find_tiles.Tie as tie
+
+module _ {F : ℕ} {mate rows first link owners marks₀ kept₀ queue opened : List ℕ}
+    (L : FindLent F mate rows first link owners marks₀ kept₀ queue opened) where
+  -- each half-edge is one of a triangle below F
+  owner-below : (h : ℕ) → h < 3 * F → at owners h < F
+  owner-below h l = omega (arith, L .owned .entry h l)
+
+  -- what `start` requires
+  startable : (role : ℕ) → StartLent role F mate owners rows
+  startable role = record {
+    some = L .some;
+    small = L .small;
+    mateRoom = L .mateRoom;
+    ownerRoom = L .ownersRoom;
+    rowsRoom = L .rowsRoom;
+    owned = owner-below;
+  }
+
+  -- the start is one of the triangles, or F
+  start-within : (role : ℕ) → startOf role F mate owners rows ≤ F
+  start-within role =
+      by-eq role 0
+      (λ e. rw (startOf-own F mate owners rows role e) (tileOf-within F rows 0 (omega arith)))
+      (λ n.
+      by-lt (at mate (role % 3)) (3 * F)
+      (beside n)
+      (λ l. omega (arith, startOf-none F mate owners rows role n refl l)))
+    where
+      beside : role ≢ 0 → at mate (role % 3) < 3 * F → startOf role F mate owners rows ≤ F
+      beside n l =
+          rw (startOf-beside F mate owners rows role n refl l refl)
+          (tileOf-within F rows (at owners (at mate (role % 3))) (omega (arith, owner-below (at mate (role % 3)) l)))
+
+  module _ (role : ℕ) {s : ℕ} (starts : s ≡ startOf role F mate owners rows) (somewhere : s ≢ F) where
+    -- a start other than F is one of the triangles
+    start-inside : s < F
+    start-inside = omega (arith, start-within role)
+
+    -- what `reach` requires
+    reachable : ReachLent s F first link owners marks₀ queue opened
+    reachable = record {
+      inside = start-inside;
+      small = L .small;
+      firstRoom = L .firstRoom;
+      linkRoom = L .linkRoom;
+      ownersRoom = L .ownersRoom;
+      marksRoom = L .marksRoom;
+      queueRoom = L .queueRoom;
+      openedRoom = L .openedRoom;
+      firstWithin = L .firstWithin;
+      firstOwn = L .firstOwn;
+      links = L .links;
+      owned = L .owned;
+    }
+
+    -- what is marked and selected
+    gathered : {n : ℕ} {marks kept : List ℕ} → Marked s F first marks → Selected F rows marks n kept
+        → Gathered (startOf role F mate owners rows) F rows first marks kept n
+    gathered reached selected = rw (← starts) (record { inside = start-inside; reached = reached; selected = selected })
+
+-- four times as many as are selected fit
+four-fits : {F n : ℕ} {rows marks kept : List ℕ} → 3 * F < 65536 → Selected F rows marks n kept → 4 * n < 262144
+four-fits {F} {marks = marks} l S = omega (arith, S .all, count-le (marked marks) F)
+
+-- ---- from each place to the one before
+
+abbrev entry : tie.After-start → tie.Start
+entry c = c .before .before .before .before .before .before .before .before .before .before
+
+abbrev started : tie.After-reach → tie.Else1
+started c = c .before .before .before .before
+
+abbrev marked-by : tie.After-select → tie.After-reach
+marked-by c = c .before .before .before .before .before .before .before .before .before
+
+-- ---- the answers
+
+start-requires : tie.Need-start-requires
+start-requires c κs =
+    let e = c .before .before .before .before .before .before .before .before .before in
+    startable (e .pre) (e .args .role)
+
+returns : tie.Need-returns
+returns c = nowhere (sym (c .before .start .ensures) ∙ c .if1 .taken)
+
+reach-requires : tie.Need-reach-requires
+reach-requires c κs =
+    let e = c .before .before .before in
+    reachable (entry (e .before) .pre) (entry (e .before) .args .role) (e .before .start .ensures) (e .if1 .left)
+
+select-requires : tie.Need-select-requires
+select-requires c κs = search needs
+
+mul-if2 : tie.Need-mul-if2
+mul-if2 c =
+    let s = c .before .before in
+    omega (arith, four-fits (entry (started (marked-by s) .before) .pre .small) (s .select .ensures))
+
+same-length : tie.Need-same-length
+same-length c = search needs
+
+same-length-2 : tie.Need-same-length-2
+same-length-2 c = search needs
+
+same-length-3 : tie.Need-same-length-3
+same-length-3 c = search needs
+
+same-length-4 : tie.Need-same-length-4
+same-length-4 c = search needs
+
+returns-2 : tie.Need-returns-2
+returns-2 c =
+    let s = c .before .before .before in
+    let r = marked-by s in
+    let e = started r in
+    uneven (gathered (entry (e .before) .pre) (entry (e .before) .args .role) (e .before .start .ensures) (e .if1 .left)
+    (r .reach .ensures) (s .select .ensures)) (c .if2 .taken)
+
+same-length-5 : tie.Need-same-length-5
+same-length-5 c = search needs
+
+same-length-6 : tie.Need-same-length-6
+same-length-6 c = search needs
+
+same-length-7 : tie.Need-same-length-7
+same-length-7 c = search needs
+
+same-length-8 : tie.Need-same-length-8
+same-length-8 c = search needs
+
+returns-3 : tie.Need-returns-3
+returns-3 c =
+    let s = c .before .before .before in
+    let r = marked-by s in
+    let e = started r in
+    let a = entry (e .before) in
+    quarter
+    (gathered (a .pre) (a .args .role) (e .before .start .ensures) (e .if1 .left) (r .reach .ensures)
+    (s .select .ensures))
+    (c .if2 .left)
+    (let some = a .pre .some in omega (arith, c .if2 .left))
+
+pub find-tiles-spec : {M : Type 1} → statement M
+find-tiles-spec =
+    tie.close
+    (tie.spec
+    start-requires
+    returns
+    reach-requires
+    select-requires
+    mul-if2
+    same-length
+    same-length-2
+    same-length-3
+    same-length-4
+    returns-2
+    same-length-5
+    same-length-6
+    same-length-7
+    same-length-8
+    returns-3)

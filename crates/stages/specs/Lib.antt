@@ -1,0 +1,3 @@
+-- What the stages of a role are lent and do.
+pub mod Role
+pub mod Maps

@@ -1,0 +1,157 @@
+// The stages of one role, without a loop of their own: the tiles that are reached from the role's start, the coarse
+// mesh that they make, the maps, and the comparison. Each calls `lists`, `mesh`, `split` and `tiles` on the tables
+// that the stages before it made; `undo` calls the stages. Every table lives in a slice that the caller lends. It
+// takes time linear in vertices and triangles, and assumes nothing.
+use lists::fill;
+use lists::gather;
+use lists::holds;
+use lists::invert;
+use lists::inverts;
+use lists::ranks;
+use lists::scatter;
+use mesh::faults::mark_used;
+use mesh::reach::reach;
+use split::number_edges;
+use split::write_fours;
+use tiles::claims::claims;
+use tiles::compare::compare;
+use tiles::select::select;
+use tiles::select::selected_firsts;
+use tiles::start::start;
+ghost use Rattle.tiles.specs.Starts.{startOf};
+ghost use Rattle.stages.specs.Role.{FindLent, TilesFound, NumberTilesLent, CoarseNumbered};
+ghost use Rattle.stages.specs.Maps.{VerticesLent, VerticesMapped, TrianglesLent, TrianglesMapped};
+ghost use Rattle.stages.specs.Maps.{AllLent, AllCompared};
+
+// Marks the tiles that are reached from the start of a role, and puts their rows one after the other into `kept`.
+// Answers how many they are, or 0 where the role has no start or they are not a quarter of the triangles.
+pub fn find_tiles(
+    role: usize,
+    triangles: usize,
+    mate: &[u16],
+    rows: &[u16],
+    first: &[u16],
+    link: &[u16],
+    owner: &[u16],
+    marks: &mut [u16],
+    kept: &mut [u16],
+    queue: &mut [u16],
+    opened: &mut [u16],
+) -> usize
+    requires { ⌜ FindLent triangles (now mate) (now rows) (now first) (now link) (now owner)
+        (now marks) (now kept) (now queue) (now opened) ⌝ }
+    ensures { λ r. ⌜ TilesFound (startOf role triangles (now (mate .entry)) (now (owner .entry)) (now (rows .entry)))
+        triangles (now (rows .entry)) (now (first .entry)) (now (marks .exit)) (now (kept .exit)) r ⌝ }
+{
+    let tile = start(role, triangles, mate, owner, rows);
+    if tile == triangles {
+        return 0;
+    }
+    reach(tile, triangles, first, link, owner, marks, queue, opened);
+    let count = select(triangles, rows, marks, kept);
+    if 4 * count != triangles {
+        return 0;
+    }
+    count
+}
+
+// Numbers the vertices of the reached rows, which are `kept`, and the edges of the coarse mesh that the rows make: the
+// coarse mesh goes to `coarse` and the numbers on its half-edges to `numbers`. Answers how many vertices it has, or
+// one more than the input where vertices and edges do not add up to the input's.
+pub fn number_tiles(
+    vertices: usize,
+    triangles: usize,
+    count: usize,
+    first: &[u16],
+    owner: &[u16],
+    marks: &[u16],
+    kept: &[u16],
+    coarse: &mut [u16],
+    numbers: &mut [u16],
+    rank: &mut [u16],
+    table: &mut [u16],
+) -> usize
+    requires { ⌜ NumberTilesLent vertices triangles count (now first) (now owner) (now marks) (now kept)
+        (now coarse) (now numbers) (now rank) (now table) ⌝ }
+    ensures { λ r. ⌜ CoarseNumbered vertices triangles count (now (first .entry)) (now (owner .entry))
+        (now (marks .entry)) (now (kept .entry)) (now (coarse .exit)) (now (numbers .exit)) r ⌝ }
+{
+    let halves = 3 * count;
+    fill(table, vertices, 0);
+    mark_used(&kept[..halves], vertices, count, table);
+    let kept_count = ranks(table, vertices, rank);
+    gather(rank, kept, halves, coarse);
+    ranks(marks, triangles, rank);
+    selected_firsts(triangles, first, owner, marks, rank, table);
+    let edges = number_edges(kept_count, halves, table, numbers);
+    if kept_count + edges != vertices {
+        return vertices + 1;
+    }
+    kept_count
+}
+
+// Gives each vertex its number in the splitting: that of the coarse vertex to the vertices of the rows, and that on
+// the half-edge to the corners of the tiles. Answers whether each vertex got one number.
+pub fn map_vertices(
+    triangles: usize,
+    count: usize,
+    list: &[u16],
+    marks: &[u16],
+    kept: &[u16],
+    coarse: &[u16],
+    numbers: &[u16],
+    map: &mut [u16],
+    corners: &mut [u16],
+) -> bool
+    requires { ⌜ VerticesLent triangles count (now list) (now marks) (now kept) (now coarse) (now numbers) (now map)
+        (now corners) ⌝ }
+    ensures { λ r. ⌜ VerticesMapped triangles count (now (list .entry)) (now (marks .entry)) (now (kept .entry))
+        (now (coarse .entry)) (now (numbers .entry)) (now (map .entry)) (now (map .exit)) (now (corners .exit)) r ⌝ }
+{
+    let halves = 3 * count;
+    select(triangles, list, marks, corners);
+    scatter(kept, coarse, halves, map);
+    scatter(corners, numbers, halves, map);
+    if !holds(kept, coarse, halves, map) {
+        return false;
+    }
+    holds(corners, numbers, halves, map)
+}
+
+// Gives each triangle its number in the splitting. Answers whether each got one.
+pub fn map_triangles(
+    triangles: usize,
+    mate: &[u16],
+    owner: &[u16],
+    marks: &[u16],
+    map: &mut [u16],
+    claimed: &mut [u16],
+) -> bool
+    requires { ⌜ TrianglesLent triangles (now mate) (now owner) (now marks) (now map) (now claimed) ⌝ }
+    ensures { λ r. ⌜ TrianglesMapped triangles (now (mate .entry)) (now (owner .entry)) (now (marks .entry))
+        (now (map .entry)) (now (map .exit)) (now (claimed .exit)) r ⌝ }
+{
+    claims(triangles, marks, mate, owner, claimed);
+    invert(claimed, triangles, map);
+    inverts(claimed, triangles, map)
+}
+
+// Whether every triangle has, under the maps, the vertices of its triangle of the splitting of the coarse mesh.
+pub fn compare_all(
+    triangles: usize,
+    count: usize,
+    list: &[u16],
+    coarse: &[u16],
+    numbers: &[u16],
+    vertices: &[u16],
+    faces: &[u16],
+    splitting: &mut [u16],
+) -> bool
+    requires { ⌜ AllLent triangles count (now list) (now coarse) (now numbers) (now vertices) (now faces)
+        (now splitting) ⌝ }
+    ensures { λ r. ⌜ AllCompared triangles count (now (list .entry)) (now (coarse .entry)) (now (numbers .entry))
+        (now (vertices .entry)) (now (faces .entry)) r ⌝ }
+{
+    write_fours(&coarse[..3 * count], count, numbers, splitting);
+    compare(triangles, list, vertices, faces, &splitting[..12 * count])
+}

@@ -1,0 +1,485 @@
+-- What the promises of split and the two undos say of a proper mesh within the limits, with room enough: which rows it
+-- passes, what is answered, and what a caller then finds in the buffers. `Demands` and `SeveralDemands` rest on these.
+use Prim.Native.Nat.{ℕ, suc, _+_, _*_, _^_, _≤_, _<_}
+use native.Mathlib.Nat.{one-mul, mul-assoc, pow-zero, pow-succ'}
+use native.Mathlib.Omega.{arith}
+use mathlib.Core.Bool.{Bool}
+use mathlib.Core.Path.{_≡_, refl, sym, ap, ap₂, _∙_, subst, subst₂}
+use mathlib.Core.Logic.{inl, inr}
+use mathlib.Core.List.{List, [], _∷_, _++_, map}
+use lib.Dec.{T as So, ltb, ltb→lt}
+use lib.ListN.{length, take, drop, replicate}
+use lib.Seq.{take-at, take-take}
+use Rattle.theory.specs.Limits.{mostTriangles, mostSplitTriangles, mostVertices, mostLevels}
+use Rattle.theory.specs.Mesh.{triangles, Same, Proper}
+use Rattle.theory.specs.Splitting.{edges, split}
+use Rattle.theory.specs.Reading.{Matched, Reading, IsReading, ReadingIn, Returned}
+use Rattle.theory.specs.Choice.{LeastRole, NoRole, Chosen, NoneChosen}
+use Rattle.theory.specs.Choice.{Several, reached, stopped, undone, sevenPlaces}
+use Rattle.theory.specs.Refusals.{Rule, Room, notThrees, noTriangle, tooLarge, tooShort, askedTooMuch}
+use Rattle.theory.specs.Refusals.{meshRules, noReading, LeastPlace, Passed, Refused}
+use Rattle.theory.specs.Calls.{Answer, OneAnswer, SeveralAnswer, Outputs, refusal, accepted, written, zeros}
+use Rattle.theory.specs.Calls.{splitRooms, Splits, undoOneRules, undoOneRooms, writtenReading, UndoesOne}
+use Rattle.theory.specs.Calls.{undoSeveralRules, undoSeveralRooms, UndoesSeveral}
+use Rattle.theory.specs.Demands.{Enough, Within, foundMesh, foundReading, foundRoles, SplitsBack, Exactly}
+use Rattle.theory.proofs.Tests.{and-sound, allOf}
+use Rattle.theory.proofs.Finite.{match-size}
+use Rattle.theory.proofs.Refusals.{proper-passed}
+use Rattle.theory.proofs.Splitting.{split-length}
+use Rattle.theory.proofs.Canonical.{returned-exists}
+use Rattle.theory.proofs.Determined.{chosen-not-refused, passed-front, judged, quarter}
+
+-- ---- lists of rules in two parts
+
+-- two parts that are passed make a list that is passed
+passed-both : (front back : List Rule) → Passed front → Passed back → Passed (front ++ back)
+unfolding Passed
+passed-both [] back p q = q
+passed-both (rule ∷ front) back p q = (p .0, passed-both front back (p .1) q)
+
+-- where the front is passed, the refusal is by the back
+refused-back : (front back : List Rule) (n p : ℕ) → Passed front → Refused (front ++ back) n p → Refused back n p
+unfolding Passed Refused
+refused-back [] back n p passed r = r
+refused-back (rule ∷ front) back n p passed (inl r) = absurd (passed .0 p (r .1 .here))
+refused-back (rule ∷ front) back n p passed (inr r) = refused-back front back n p (passed .1) (r .1)
+
+-- and a refusal by the back is one by the whole list
+back-refused : (front back : List Rule) (n p : ℕ) → Passed front → Refused back n p → Refused (front ++ back) n p
+unfolding Passed Refused
+back-refused [] back n p passed r = r
+back-refused (rule ∷ front) back n p passed r = inr (passed .0, back-refused front back n p (passed .1) r)
+
+-- what is true of every row's number is true of the number of a refusal
+refused-number : (test : ℕ → Bool) (rules : List Rule) (n p : ℕ) → So (allOf test (map (λ rule. rule .number) rules))
+    → Refused rules n p → So (test n)
+unfolding Refused allOf
+refused-number test [] n p t r = absurd r
+refused-number test (rule ∷ rules) n p t (inl r) = rw (r .0) (and-sound (test (rule .number)) _ t .0)
+refused-number test (rule ∷ rules) n p t (inr r) =
+    refused-number test rules n p (and-sound (test (rule .number)) _ t .1) (r .1)
+
+-- ---- proper within the limits, with room enough: 2 to 10 are not given
+
+-- the rows 2 to 10, which split and the two undos have in common
+abbrev common : ℕ → ℕ → List ℕ → List Room → List Rule
+common most N T rooms =
+    notThrees T ∷ noTriangle T ∷ tooLarge most N (triangles T) ∷ tooShort rooms ∷ meshRules N T
+
+-- a proper mesh within the limits is refused by none of them
+pub within-passed : (most N : ℕ) (T : List ℕ) (rooms : List Room) → Within most N T → Enough rooms
+    → Passed (common most N T rooms)
+unfolding Passed
+within-passed most N T rooms W enough =
+    (threes, (some, (few, (λ place g. enough (g .0), proper-passed N T (W .proper)))))
+  where
+    threes : (place : ℕ) → notThrees T .given place → ⊥
+    threes place g = g .0 (omega (arith, W .proper .otherwise .whole))
+
+    some : (place : ℕ) → noTriangle T .given place → ⊥
+    some place g = omega (arith, W .some, g .0)
+
+    few : (place : ℕ) → tooLarge most N (triangles T) .given place → ⊥
+    few place (inl l, _) = omega (arith, W .fewTriangles)
+    few place (inr l, _) = omega (arith, W .fewVertices)
+
+-- and where none of them is given, the mesh is proper and within the limits, and the room is enough
+pub passed-within : (most N : ℕ) (T : List ℕ) (rooms : List Room) → Passed (common most N T rooms)
+    → Within most N T × Enough rooms
+unfolding Passed
+passed-within most N T rooms passed = (
+  record {
+    proper = judgement .0;
+    some = judgement .1;
+    fewTriangles = not-above (triangles T) most (λ l. passed .1 .1 .0 0 (inl l, refl));
+    fewVertices = not-above N mostVertices (λ l. passed .1 .1 .0 0 (inr l, refl));
+  },
+  λ short. passed .1 .1 .1 .0 0 (short, refl),
+)
+  where
+    judgement : Proper N T × (0 < triangles T)
+    judgement = judged N T (passed .0) (passed .1 .0) (passed .1 .1 .1 .1)
+
+    not-above : (m n : ℕ) → (n < m → ⊥) → m ≤ n
+    not-above m n h = omega (arith, h)
+
+-- the mesh of a reading is within split's limits, being a quarter of one within undo's
+pub reading-within : {N : ℕ} {T : List ℕ} {r : Reading} → Within mostTriangles N T → IsReading Same N T r
+    → Within mostSplitTriangles (r .vertices) (r .mesh)
+reading-within W R = record {
+  proper = R .proper;
+  some = omega (arith, quarter R, W .some);
+  fewTriangles = omega (arith, quarter R, W .fewTriangles);
+  fewVertices = omega (arith, match-size (R .matched .vertices), W .fewVertices);
+}
+
+-- what is within split's limits is within undo's
+pub smaller-within : {N : ℕ} {T : List ℕ} → Within mostSplitTriangles N T → Within mostTriangles N T
+smaller-within W = record {
+  proper = W .proper;
+  some = W .some;
+  fewTriangles = omega (arith, W .fewTriangles);
+  fewVertices = W .fewVertices;
+}
+
+-- ---- what is found in a buffer
+
+-- what was written stands in the first entries
+take-written : (new old : List ℕ) {n : ℕ} → length new ≡ n → take n (written new old) ≡ new
+take-written new old {n} e = take-at new (drop (length new) old) n e
+
+-- ---- what split answers
+
+-- a proper mesh within split's limits is accepted, with room enough
+pub split-accepts : {N : ℕ} {T out : List ℕ} {works : List (List ℕ)} → Within mostSplitTriangles N T
+    → Enough (splitRooms N T out works)
+    → Splits N T out works (accepted (N + edges T) (4 * triangles T)) (written (split N T) out) (map zeros works)
+split-accepts {N} {T} W enough = Splits.accepts (within-passed mostSplitTriangles N T _ W enough) refl refl refl
+
+-- its splitting is found in the output buffer
+found-split : (N : ℕ) (T out : List ℕ) {out′ : List ℕ} {answer : Answer}
+    → answer ≡ accepted (N + edges T) (4 * triangles T) → out′ ≡ written (split N T) out
+    → foundMesh answer out′ ≡ split N T
+found-split N T out e f =
+    let long : length (split N T) ≡ 3 * (4 * triangles T) = omega (arith, split-length N T) in
+    ap₂ foundMesh e f ∙ take-written (split N T) out long
+
+-- for the mesh of a reading, that is the input under the maps
+pub reading-splits : {N : ℕ} {T : List ℕ} {r : Reading} {out out′ : List ℕ} {works works′ : List (List ℕ)}
+    {answer : Answer} → IsReading Same N T r
+    → (answer ≡ accepted (r .vertices + edges (r .mesh)) (4 * triangles (r .mesh)))
+    × (out′ ≡ written (split (r .vertices) (r .mesh)) out) × (works′ ≡ map zeros works)
+    → SplitsBack N T r out works answer out′ works′
+reading-splits {N} {T} {r} {out} R (e, f, g) = record {
+  answers = e;
+  writes = f;
+  clears = g;
+  sameVertices = ap (λ (a : Answer). a .vertices) e ∙ sym (match-size (R .matched .vertices));
+  sameTriangles = ap (λ (a : Answer). a .triangles) e ∙ sym (quarter R);
+  input = subst₂ (λ (M : ℕ) (S : List ℕ). Matched Same (r .vertexMap) (r .triangleMap) N T M S)
+      (ap (λ (a : Answer). a .vertices) (sym e)) (sym (found-split (r .vertices) (r .mesh) out e f)) (R .matched);
+}
+
+-- where split refuses nothing, the mesh is proper and within its limits
+pub split-accepted : {N : ℕ} {T out out′ : List ℕ} {works works′ : List (List ℕ)} {answer : Answer}
+    → Splits N T out works answer out′ works′ → answer .refusal ≡ 0
+    → Within mostSplitTriangles N T × (answer .vertices ≡ N + edges T) × (foundMesh answer out′ ≡ split N T)
+unfolding allOf
+split-accepted (Splits.refuses n p R e _ _) none =
+    absurd (omega (arith, ltb→lt 0 n (refused-number (ltb 0) _ n p tt R), ap (λ (a : Answer). a .refusal) e, none))
+split-accepted {N} {T} {out} (Splits.accepts passed e f _) none = (
+  passed-within mostSplitTriangles N T _ passed .0,
+  ap (λ (a : Answer). a .vertices) e,
+  found-split N T out e f,
+)
+
+-- ---- which role is chosen
+
+-- a role is chosen for the numbers 0 to 4
+chosen-asked : {N : ℕ} {T : List ℕ} {asked role : ℕ} → Chosen N T asked role → asked ≤ 4
+chosen-asked (Chosen.named l _) = omega arith
+chosen-asked (Chosen.least _) = omega arith
+
+-- and so is none
+none-asked : {N : ℕ} {T : List ℕ} {asked : ℕ} → NoneChosen N T asked → asked ≤ 4
+none-asked (NoneChosen.named l _) = omega arith
+none-asked (NoneChosen.least _) = omega arith
+
+-- the role chosen has a reading
+chosen-reading : {N : ℕ} {T : List ℕ} {asked role : ℕ} → Chosen N T asked role → ReadingIn Same N T role
+chosen-reading (Chosen.named _ R) = R
+chosen-reading (Chosen.least L) = L .has
+
+-- asked 0 to 3, the role chosen is the one asked
+pub chosen-named : {N : ℕ} {T : List ℕ} {asked role : ℕ} → asked ≤ 3 → Chosen N T asked role
+    → (role ≡ asked) × ReadingIn Same N T asked
+chosen-named l (Chosen.named _ R) = (refl, R)
+chosen-named l (Chosen.least _) = absurd (omega arith)
+
+-- and none is chosen where it has no reading
+pub none-named : {N : ℕ} {T : List ℕ} {asked : ℕ} → asked ≤ 3 → NoneChosen N T asked → ReadingIn Same N T asked → ⊥
+none-named l (NoneChosen.named _ none) = none
+none-named l (NoneChosen.least _) = absurd (omega arith)
+
+-- asked 4, the role chosen is the least one
+pub chosen-least : {N : ℕ} {T : List ℕ} {role : ℕ} → Chosen N T 4 role → LeastRole Same N T role
+chosen-least (Chosen.named l _) = absurd (omega arith)
+chosen-least (Chosen.least L) = L
+
+-- and none is chosen where no role has a reading
+pub none-least : {N : ℕ} {T : List ℕ} → NoneChosen N T 4 → NoRole Same N T
+none-least (NoneChosen.named l _) = absurd (omega arith)
+none-least (NoneChosen.least none) = none
+
+-- ---- what undo one answers
+
+-- the rows of undo one but the last, 11
+abbrev but-eleven : ℕ → List ℕ → ℕ → List Room → List Rule
+but-eleven N T asked rooms = askedTooMuch 4 asked ∷ common mostTriangles N T rooms
+
+-- a proper mesh within its limits passes them
+but-eleven-passed : (N : ℕ) (T : List ℕ) (asked : ℕ) (rooms : List Room) → Within mostTriangles N T → Enough rooms
+    → asked ≤ 4 → Passed (but-eleven N T asked rooms)
+unfolding Passed
+but-eleven-passed N T asked rooms W enough l =
+    (λ place g. omega (arith, g .0), within-passed mostTriangles N T rooms W enough)
+
+-- so it is refused with 11 or not at all
+one-refused : (N : ℕ) (T : List ℕ) (asked : ℕ) (rooms : List Room) (n p : ℕ) → Within mostTriangles N T → Enough rooms
+    → asked ≤ 4 → Refused (undoOneRules N T asked rooms) n p → (n ≡ 11) × NoneChosen N T asked
+unfolding Refused
+one-refused N T asked rooms n p W enough l refused =
+    go (refused-back (but-eleven N T asked rooms) (noReading N T asked ∷ []) n p
+    (but-eleven-passed N T asked rooms W enough l) refused)
+  where
+    go : Refused (noReading N T asked ∷ []) n p → (n ≡ 11) × NoneChosen N T asked
+    go (inl r) = (r .0, r .1 .here .0)
+    go (inr r) = absurd (r .1)
+
+-- where undo one refuses nothing, the mesh is proper and within its limits
+one-within : (N : ℕ) (T : List ℕ) (asked : ℕ) (rooms : List Room) → Passed (undoOneRules N T asked rooms)
+    → Within mostTriangles N T
+unfolding Passed
+one-within N T asked rooms passed =
+    passed-within mostTriangles N T rooms
+    (passed-front (common mostTriangles N T rooms) (noReading N T asked ∷ []) (passed .1)) .0
+
+-- what undo one answers where it accepts a reading in a role
+abbrev pub one-accepted : ℕ → Reading → OneAnswer
+one-accepted role r = record { common = accepted (r .vertices) (triangles (r .mesh)); role = role }
+
+-- a proper mesh within its limits is accepted with the chosen role and the returned reading, with room enough
+pub one-accepts : {N : ℕ} {T : List ℕ} {asked role : ℕ} {r : Reading} {out : Outputs} {works : List (List ℕ)}
+    → Within mostTriangles N T → Enough (undoOneRooms N T out works) → Chosen N T asked role → Returned Same N T role r
+    → UndoesOne N T asked out works (one-accepted role r) (writtenReading r out) (map zeros works)
+unfolding Passed
+one-accepts {N} {T} {asked} {role} {r} {out} {works} W enough c R =
+    UndoesOne.accepts role r (passed-both (but-eleven N T asked rooms) (noReading N T asked ∷ [])
+    (but-eleven-passed N T asked rooms W enough (chosen-asked c)) (λ place g. chosen-not-refused c (g .0), tt))
+    c R refl refl refl
+  where
+    rooms : List Room
+    rooms = undoOneRooms N T out works
+
+-- so where a role is chosen, there is an acceptance
+pub chosen-accepted : {N : ℕ} {T : List ℕ} {asked role : ℕ} {out : Outputs} {works : List (List ℕ)}
+    → Within mostTriangles N T → Enough (undoOneRooms N T out works) → Chosen N T asked role
+    → (r : Reading) × UndoesOne N T asked out works (one-accepted role r) (writtenReading r out) (map zeros works)
+chosen-accepted {N} {T} {asked} {role} {out} {works} W enough c =
+    go (returned-exists N T (W .proper) role (W .some) (chosen-reading c))
+  where
+    go : (r : Reading) × Returned Same N T role r
+        → (r : Reading) × UndoesOne N T asked out works (one-accepted role r) (writtenReading r out) (map zeros works)
+    go (r, R) = (r, one-accepts W enough c R)
+
+-- where none is chosen, it is refused with 11
+pub none-refused : {N : ℕ} {T : List ℕ} {asked : ℕ} {out : Outputs} {works : List (List ℕ)} → Within mostTriangles N T
+    → Enough (undoOneRooms N T out works) → NoneChosen N T asked
+    → UndoesOne N T asked out works (record { common = refusal 11 0; role = 0 }) out (map zeros works)
+unfolding Refused
+none-refused {N} {T} {asked} {out} {works} W enough none =
+    UndoesOne.refuses 11 0 (back-refused (but-eleven N T asked rooms) (noReading N T asked ∷ []) 11 0
+    (but-eleven-passed N T asked rooms W enough (none-asked none)) (inl (refl, first))) refl refl refl
+  where
+    rooms : List Room
+    rooms = undoOneRooms N T out works
+
+    first : LeastPlace (noReading N T asked .given) 0
+    first = record { here = (none, refl); before = λ earlier l. absurd (omega arith) }
+
+-- What an acceptance by undo one says, of the reading as a caller finds it.
+pub record Accepted (N : ℕ) (T : List ℕ) (asked : ℕ) (out : Outputs) (answer : OneAnswer) (out′ : Outputs)
+    : Type 0 where
+  pub within : Within mostTriangles N T
+  pub chosen : Chosen N T asked (answer .role)
+  pub returned : Returned Same N T (answer .role) (foundReading N T answer out′)
+  pub counted : answer .common .triangles ≡ triangles (foundMesh (answer .common) (out′ .mesh))
+  pub wrote : out′ ≡ writtenReading (foundReading N T answer out′) out
+
+-- the written reading is found
+found-written : (N : ℕ) (T : List ℕ) (role : ℕ) (r : Reading) (out : Outputs) → Returned Same N T role r
+    → foundReading N T (one-accepted role r) (writtenReading r out) ≡ r
+found-written N T role r out R = λ i. record {
+  vertices = r .vertices;
+  mesh = take-written (r .mesh) (out .mesh) (R .is .proper .otherwise .whole) i;
+  vertexMap = take-written (r .vertexMap) (out .vertexMap) (R .is .matched .vertices .long) i;
+  triangleMap = take-written (r .triangleMap) (out .triangleMap) (R .is .matched .faces .long) i;
+}
+
+-- where undo one refuses nothing, it is such an acceptance
+pub one-accepted-found : {N : ℕ} {T : List ℕ} {asked : ℕ} {out out′ : Outputs} {works works′ : List (List ℕ)}
+    {answer : OneAnswer} → UndoesOne N T asked out works answer out′ works′ → answer .common .refusal ≡ 0
+    → Accepted N T asked out answer out′
+unfolding allOf
+one-accepted-found (UndoesOne.refuses n p R e _ _) none = absurd (omega (
+  arith,
+  ltb→lt 0 n (refused-number (ltb 0) _ n p tt R),
+  ap (λ (a : OneAnswer). a .common .refusal) e,
+  none,
+))
+one-accepted-found {N} {T} {asked} {out} {works = works} (UndoesOne.accepts role r passed c R e f _) none =
+    subst₂ (λ (a : OneAnswer) (o : Outputs). Accepted N T asked out a o) (sym e) (sym f) here
+  where
+    found : foundReading N T (one-accepted role r) (writtenReading r out) ≡ r
+    found = found-written N T role r out R
+
+    here : Accepted N T asked out (one-accepted role r) (writtenReading r out)
+    here = record {
+      within = one-within N T asked (undoOneRooms N T out works) passed;
+      chosen = c;
+      returned = subst (λ (s : Reading). Returned Same N T role s) (sym found) R;
+      counted = ap (λ (s : Reading). triangles (s .mesh)) (sym found);
+      wrote = ap (λ (s : Reading). writtenReading s out) (sym found);
+    }
+
+-- Undo one chooses a role and accepts, or there is none to choose and it gives 11.
+pub data Outcome (N : ℕ) (T : List ℕ) (asked : ℕ) (answer : OneAnswer) : Type 0 where
+  accepts : answer .common .refusal ≡ 0 → Chosen N T asked (answer .role) → Outcome N T asked answer
+  refuses : answer .common .refusal ≡ 11 → NoneChosen N T asked → Outcome N T asked answer
+
+-- nothing else happens to a proper mesh within the limits, with room enough
+pub outcome : {N : ℕ} {T : List ℕ} {asked : ℕ} {out out′ : Outputs} {works works′ : List (List ℕ)} {answer : OneAnswer}
+    → Within mostTriangles N T → Enough (undoOneRooms N T out works) → asked ≤ 4
+    → UndoesOne N T asked out works answer out′ works′ → Outcome N T asked answer
+outcome {N} {T} {asked} W enough l (UndoesOne.refuses n p R e _ _) =
+    let eleven : (n ≡ 11) × NoneChosen N T asked = one-refused N T asked _ n p W enough l R in
+    refuses (ap (λ (a : OneAnswer). a .common .refusal) e ∙ eleven .0) (eleven .1)
+outcome {N} {T} {asked} W enough l (UndoesOne.accepts role r _ c _ e _ _) =
+    accepts (ap (λ (a : OneAnswer). a .common .refusal) e)
+    (subst (λ (ρ : ℕ). Chosen N T asked ρ) (ap (λ (a : OneAnswer). a .role) (sym e)) c)
+
+-- so it accepts exactly if so, where a choice says that it is so and the lack of one that it is not
+pub outcome-exactly : {so : Type 0} {N : ℕ} {T : List ℕ} {asked : ℕ} {answer : OneAnswer} → Outcome N T asked answer
+    → (Chosen N T asked (answer .role) → so) → (NoneChosen N T asked → so → ⊥) → Exactly so (answer .common .refusal)
+outcome-exactly (accepts e c) has lacks = record {
+  accepted = (λ _. has c, λ _. e);
+  refused = (λ f. absurd (omega arith), λ h. absurd (h (has c)));
+  either = inl e;
+}
+outcome-exactly (refuses e n) has lacks = record {
+  accepted = (λ f. absurd (omega arith), λ h. absurd (lacks n h));
+  refused = (λ _. lacks n, λ _. e);
+  either = inr e;
+}
+
+-- ---- the levels of undo several
+
+-- no more levels are undone than asked
+pub several-at-most : {asked N levels M : ℕ} {T roles C : List ℕ} → Several asked N T levels roles M C → levels ≤ asked
+several-at-most reached = omega arith
+several-at-most (stopped _) = omega arith
+several-at-most (undone r _ _ S) = omega (arith, several-at-most S)
+
+-- there is a role for each level
+several-roles : {asked N levels M : ℕ} {T roles C : List ℕ} → Several asked N T levels roles M C
+    → length roles ≡ levels
+several-roles reached = refl
+several-roles (stopped _) = refl
+several-roles (undone r _ _ S) = ap suc (several-roles S)
+
+-- each level leaves a quarter of the triangles
+pub several-quarters : {asked N levels M : ℕ} {T roles C : List ℕ} → Several asked N T levels roles M C
+    → triangles T ≡ 4 ^ levels * triangles C
+several-quarters {T = T} reached = sym (rw (pow-zero 4) (one-mul (triangles T)))
+several-quarters {T = T} (stopped _) = sym (rw (pow-zero 4) (one-mul (triangles T)))
+several-quarters {levels = suc levels} {C = C} (undone r _ R S) =
+    quarter (R .is) ∙ ap (λ (n : ℕ). 4 * n) (several-quarters S) ∙ sym (mul-assoc 4 (4 ^ levels) (triangles C))
+    ∙ ap (λ (n : ℕ). n * triangles C) (sym (pow-succ' 4 levels))
+
+-- where fewer are undone than asked, nothing is left to undo
+pub several-stops : {asked N levels M : ℕ} {T roles C : List ℕ} → Several asked N T levels roles M C → levels < asked
+    → NoRole Same M C
+several-stops reached l = absurd (omega arith)
+several-stops (stopped none) l = none
+several-stops (undone r _ _ S) l = several-stops S (omega arith)
+
+-- what is left of a mesh within the limits is within them
+pub several-within : {asked N levels M : ℕ} {T roles C : List ℕ} → Within mostTriangles N T
+    → Several asked N T levels roles M C → Within mostTriangles M C
+several-within W reached = W
+several-within W (stopped _) = W
+several-within W (undone r _ R S) = several-within (smaller-within (reading-within W (R .is))) S
+
+-- ---- what undo several answers
+
+-- a proper mesh within its limits is refused by none of its rows
+pub several-passed : (N : ℕ) (T : List ℕ) (asked : ℕ) (rooms : List Room) → Within mostTriangles N T → Enough rooms
+    → asked ≤ mostLevels → Passed (undoSeveralRules N T asked rooms)
+unfolding Passed
+several-passed N T asked rooms W enough l =
+    (λ place g. omega (arith, g .0), within-passed mostTriangles N T rooms W enough)
+
+-- and where it is refused by none, at most seven levels are asked and the mesh is within the limits
+several-asked : (N : ℕ) (T : List ℕ) (asked : ℕ) (rooms : List Room) → Passed (undoSeveralRules N T asked rooms)
+    → (asked ≤ mostLevels) × Within mostTriangles N T
+unfolding Passed
+several-asked N T asked rooms passed =
+    (not-above (λ l. passed .0 0 (l, refl)), passed-within mostTriangles N T rooms (passed .1) .0)
+  where
+    not-above : (mostLevels < asked → ⊥) → asked ≤ mostLevels
+    not-above h = omega (arith, h)
+
+-- what undo several answers where it accepts
+abbrev pub several-accepted : ℕ → List ℕ → ℕ → List ℕ → SeveralAnswer
+several-accepted levels roles M C =
+    record { common = accepted M (triangles C); levels = levels; roles = sevenPlaces roles }
+
+-- a proper mesh within its limits is accepted with the levels undone, with room enough
+pub several-accepts : {N : ℕ} {T : List ℕ} {asked levels M : ℕ} {roles C out : List ℕ} {works : List (List ℕ)}
+    → Within mostTriangles N T → Enough (undoSeveralRooms N T out works) → asked ≤ mostLevels
+    → Several asked N T levels roles M C
+    → UndoesSeveral N T asked out works (several-accepted levels roles M C) (written C out) (map zeros works)
+several-accepts {N} {T} {asked} {levels} {M} {roles} {C} W enough l S =
+    UndoesSeveral.accepts levels M roles C (several-passed N T asked _ W enough l) S refl refl refl
+
+-- What an acceptance by undo several says, of the levels, roles and mesh as a caller finds them.
+pub record SeveralAccepted (N : ℕ) (T : List ℕ) (asked : ℕ) (out : List ℕ) (answer : SeveralAnswer) (out′ : List ℕ)
+    : Type 0 where
+  pub within : Within mostTriangles N T
+  pub undone : Several asked N T (answer .levels) (foundRoles answer) (answer .common .vertices)
+      (foundMesh (answer .common) out′)
+  pub counted : answer .common .triangles ≡ triangles (foundMesh (answer .common) out′)
+  pub placed : answer .roles ≡ sevenPlaces (foundRoles answer)
+  pub wrote : out′ ≡ written (foundMesh (answer .common) out′) out
+
+-- the roles of at most seven levels are found in the seven places
+found-roles : (roles : List ℕ) {levels : ℕ} → length roles ≡ levels → levels ≤ mostLevels
+    → take levels (sevenPlaces roles) ≡ roles
+found-roles roles {levels} e l =
+    take-take levels mostLevels (roles ++ replicate mostLevels 0) l ∙ take-at roles (replicate mostLevels 0) levels e
+
+-- where undo several refuses nothing, it is such an acceptance
+pub several-accepted-found : {N : ℕ} {T : List ℕ} {asked : ℕ} {out out′ : List ℕ} {works works′ : List (List ℕ)}
+    {answer : SeveralAnswer} → UndoesSeveral N T asked out works answer out′ works′ → answer .common .refusal ≡ 0
+    → SeveralAccepted N T asked out answer out′
+unfolding allOf
+several-accepted-found (UndoesSeveral.refuses n p R e _ _) none = absurd (omega (
+  arith,
+  ltb→lt 0 n (refused-number (ltb 0) _ n p tt R),
+  ap (λ (a : SeveralAnswer). a .common .refusal) e,
+  none,
+))
+several-accepted-found {N} {T} {asked} {out} {works = works} (UndoesSeveral.accepts levels M roles C passed S e f _)
+    none = subst₂ (λ (a : SeveralAnswer) (o : List ℕ). SeveralAccepted N T asked out a o) (sym e) (sym f) here
+  where
+    limits : (asked ≤ mostLevels) × Within mostTriangles N T
+    limits = several-asked N T asked (undoSeveralRooms N T out works) passed
+
+    few : levels ≤ mostLevels
+    few = omega (arith, several-at-most S, limits .0)
+
+    mesh : take (3 * triangles C) (written C out) ≡ C
+    mesh = take-written C out (several-within (limits .1) S .proper .otherwise .whole)
+
+    rolesFound : take levels (sevenPlaces roles) ≡ roles
+    rolesFound = found-roles roles (several-roles S) few
+
+    here : SeveralAccepted N T asked out (several-accepted levels roles M C) (written C out)
+    here = record {
+      within = limits .1;
+      undone =
+          subst₂ (λ (ρs S : List ℕ). Several asked N T levels ρs M S) (sym rolesFound) (sym mesh) S;
+      counted = ap triangles (sym mesh);
+      placed = ap sevenPlaces (sym rolesFound);
+      wrote = ap (λ (D : List ℕ). written D out) (sym mesh);
+    }

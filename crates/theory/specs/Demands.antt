@@ -1,0 +1,69 @@
+-- The words in which demands 2 and 3 are said and that document 01's rules do not need. The demands themselves are the
+-- theorems of `proofs/Demands` and `proofs/SeveralDemands`; no contract speaks of anything here.
+use Prim.Native.Nat.{ℕ, zero, suc, _+_, _*_, _≤_, _<_}
+use mathlib.Core.Path.{_≡_}
+use mathlib.Core.Logic.{_⊎_, _↔_}
+use mathlib.Core.List.{List, map}
+use lib.ListN.{take}
+use Rattle.theory.specs.Limits.{mostVertices}
+use Rattle.theory.specs.Mesh.{triangles, Same, Proper}
+use Rattle.theory.specs.Splitting.{edges, split}
+use Rattle.theory.specs.Reading.{Matched, Reading}
+use Rattle.theory.specs.Refusals.{Room, Short}
+use Rattle.theory.specs.Calls.{Answer, OneAnswer, SeveralAnswer, Outputs, accepted, written, zeros, Splits}
+
+-- "room enough lent": no lent buffer is shorter than needed.
+abbrev pub Enough : List Room → Type 0
+Enough rooms = Short rooms → ⊥
+
+-- "a proper mesh within the limits" of a call that takes at most so many triangles.
+pub record Within (most N : ℕ) (T : List ℕ) : Type 0 where
+  pub proper : Proper N T
+  pub some : 0 < triangles T
+  pub fewTriangles : triangles T ≤ most
+  pub fewVertices : N ≤ mostVertices
+
+-- "the same apart from numbering and order": some match takes one mesh onto the other.
+abbrev pub SameApart : ℕ → List ℕ → ℕ → List ℕ → Type 0
+SameApart N T M S = (f : List ℕ) × (g : List ℕ) × Matched Same f g N T M S
+
+-- The mesh that a call wrote, as a caller finds it: "the entries it needs", three for each triangle of the answer.
+abbrev pub foundMesh : Answer → List ℕ → List ℕ
+foundMesh answer out = take (3 * answer .triangles) out
+
+-- The reading that undo one of (N, T) wrote, as a caller finds it: the mesh, and V and F entries of the two maps.
+abbrev pub foundReading : ℕ → List ℕ → OneAnswer → Outputs → Reading
+foundReading N T answer out = record {
+  vertices = answer .common .vertices;
+  mesh = foundMesh (answer .common) (out .mesh);
+  vertexMap = take N (out .vertexMap);
+  triangleMap = take (triangles T) (out .triangleMap);
+}
+
+-- "accepted by split .., and its splitting is the input under the returned maps": split's result on a reading's mesh.
+pub record SplitsBack (N : ℕ) (T : List ℕ) (r : Reading) (out : List ℕ) (works : List (List ℕ)) (answer : Answer)
+    (out′ : List ℕ) (works′ : List (List ℕ)) : Type 0 where
+  pub answers : answer ≡ accepted (r .vertices + edges (r .mesh)) (4 * triangles (r .mesh))
+  pub writes : out′ ≡ written (split (r .vertices) (r .mesh)) out
+  pub clears : works′ ≡ map zeros works
+  pub sameVertices : answer .vertices ≡ N
+  pub sameTriangles : answer .triangles ≡ triangles T
+  pub input : Matched Same (r .vertexMap) (r .triangleMap) N T (answer .vertices) (foundMesh answer out′)
+
+-- "accepted exactly if": a call with this refusal number accepts if so, gives 11 if not, and nothing else.
+pub record Exactly (so : Type 0) (number : ℕ) : Type 0 where
+  pub accepted : number ≡ 0 ↔ so
+  pub refused : number ≡ 11 ↔ (so → ⊥)
+  pub either : (number ≡ 0) ⊎ (number ≡ 11)
+
+-- The roles that undo several took, as a caller finds them: one for each level of the answer.
+abbrev pub foundRoles : SeveralAnswer → List ℕ
+foundRoles answer = take (answer .levels) (answer .roles)
+
+-- (N, T) "split" several times: so many calls of split, each accepted and given the mesh that the one before wrote,
+-- make (M, S), whatever buffers are lent to them.
+pub data SplitTimes (N : ℕ) (T : List ℕ) : ℕ → ℕ → List ℕ → Type 0 where
+  never : SplitTimes N T zero N T
+  onceMore : {times M : ℕ} {S out out′ : List ℕ} {works works′ : List (List ℕ)} {answer : Answer}
+      → SplitTimes N T times M S → Splits M S out works answer out′ works′ → answer .refusal ≡ 0
+      → SplitTimes N T (suc times) (answer .vertices) (foundMesh answer out′)
