@@ -1,8 +1,10 @@
 // Both versions give the answers that a third way gives, on every mesh that is measured, and each refusal once: so both do the
 // work, and the judging, that the times are to include.
-use crate::cases::{split_buffers, undo_one_buffers, LEAST, LENT, NAMES, SPLITS, UNDO_ONES};
-use crate::library::{Answer, OneAnswer, OneOutputs};
-use crate::meshes::{self, splitting, Mesh, FINE_TRIANGLES, TRIANGLES};
+use crate::cases::{
+    split_buffers, undo_one_buffers, undo_several_buffers, LEAST, LENT, MOST_LEVELS, NAMES, SPLITS, UNDO_ONES, UNDO_SEVERALS,
+};
+use crate::library::{Answer, OneAnswer, OneOutputs, SeveralAnswer};
+use crate::meshes::{self, splitting, Mesh, Several, FINE_TRIANGLES, TRIANGLES};
 
 pub fn check_all() {
     check_one_triangle();
@@ -10,6 +12,7 @@ pub fn check_all() {
     check_other_refusals();
     meshes::to_split().iter().for_each(check_split);
     meshes::to_undo().iter().for_each(check_undo_one);
+    meshes::to_undo_several().iter().for_each(check_undo_several);
 }
 
 // The splitting of one triangle and its undoing, worked by hand.
@@ -27,11 +30,14 @@ fn check_one_triangle() {
         let answer = UNDO_ONES[version](6, &fine, LEAST, &mut out, &mut work);
         assert_eq!(answer, OneAnswer { refusal: 0, place: 0, vertices: 3, triangles: 1, role: 0 }, "{what}");
         assert_eq!(out, reading, "{what}");
+
+        let answer = SeveralAnswer { vertices: 3, triangles: 1, levels: 1, ..Default::default() };
+        check_levels(version, (6, &fine), MOST_LEVELS, answer, &coarse);
     }
 }
 
-// What both calls judge in the same way, but for the most triangles that they take. Undo one then has no reading of a mesh that
-// passes.
+// What all calls judge in the same way, but for the most triangles that they take. Undo one then has no reading of a mesh that
+// passes, and undo several leaves it as it is.
 fn check_mesh_refusals() {
     let large = |most: usize| [0, 1, 2].repeat(most + 1);
     let cases: [(u64, &[u16], u64, u64); 9] = [
@@ -54,8 +60,14 @@ fn check_mesh_refusals() {
             assert!(work.iter().flatten().all(|&entry| entry == 0), "{}: refusal {refusal} leaves work", NAMES[version]);
         }
         for (vertices, list, refusal, place) in cases.into_iter().chain([(3, &large(FINE_TRIANGLES)[..], 4, 0)]) {
-            let refusal = if refusal == 0 { 11 } else { refusal };
-            check_undo_one_refused(version, vertices, list, LEAST, (refusal, place));
+            if refusal == 0 {
+                check_undo_one_refused(version, vertices, list, LEAST, (11, 0));
+                let answer = SeveralAnswer { vertices, triangles: list.len() as u64 / 3, ..Default::default() };
+                check_levels(version, (vertices, list), MOST_LEVELS, answer, list);
+            } else {
+                check_undo_one_refused(version, vertices, list, LEAST, (refusal, place));
+                check_undo_several_refused(version, vertices, list, MOST_LEVELS, (refusal, place));
+            }
         }
     }
 }
@@ -66,6 +78,7 @@ fn check_other_refusals() {
     for version in [0, 1] {
         let name = NAMES[version];
         check_undo_one_refused(version, vertices as u64, &list, LEAST + 1, (1, 0));
+        check_undo_several_refused(version, vertices as u64, &list, MOST_LEVELS + 1, (1, 0));
         for role in 1..4 {
             check_undo_one_refused(version, vertices as u64, &list, role, (11, 0));
         }
@@ -81,6 +94,13 @@ fn check_other_refusals() {
             let answer = UNDO_ONES[version](vertices as u64, &list, LEAST, &mut out, &mut work);
             assert_eq!(answer.refusal, 5, "{name}: buffer {short} of undo one is short");
         }
+
+        for short in 0..2 {
+            let (mut out, mut work) = undo_several_buffers(vertices, &list);
+            [&mut out, &mut work[11]][short].pop();
+            let answer = UNDO_SEVERALS[version](vertices as u64, &list, MOST_LEVELS, &mut out, &mut work);
+            assert_eq!(answer.refusal, 5, "{name}: buffer {short} of undo several is short");
+        }
     }
 }
 
@@ -91,6 +111,21 @@ fn check_undo_one_refused(version: usize, vertices: u64, list: &[u16], asked: u6
     let answer = UNDO_ONES[version](vertices, list, asked, &mut out, &mut work);
     assert_eq!(answer, OneAnswer { refusal, place, vertices: 0, triangles: 0, role: 0 }, "{what}");
     assert!(out == before, "{what}: a refusal writes");
+    assert!(work.iter().flatten().all(|&entry| entry == 0), "{what}: a work buffer is not cleared");
+}
+
+fn check_undo_several_refused(version: usize, vertices: u64, list: &[u16], asked: u64, (refusal, place): (u64, u64)) {
+    check_levels(version, (vertices, list), asked, SeveralAnswer { refusal, place, ..Default::default() }, &[]);
+}
+
+// Undo several answers so, and writes no more than the mesh that is left.
+fn check_levels(version: usize, (vertices, list): (u64, &[u16]), asked: u64, expected: SeveralAnswer, left: &[u16]) {
+    let what = format!("{} undo several, asked {asked}, of {vertices} vertices, {} triangles", NAMES[version], list.len() / 3);
+    let (mut out, mut work) = undo_several_buffers(vertices as usize, list);
+    let answer = UNDO_SEVERALS[version](vertices, list, asked, &mut out, &mut work);
+    assert_eq!(answer, expected, "{what}");
+    assert!(out[..left.len()] == *left, "{what}: another mesh is left");
+    assert!(out[left.len()..].iter().all(|&entry| entry == LENT), "{what}: writes behind the mesh that is left");
     assert!(work.iter().flatten().all(|&entry| entry == 0), "{what}: a work buffer is not cleared");
 }
 
@@ -158,6 +193,50 @@ fn undo_one_accepted(version: usize, mesh: &Mesh, asked: u64) -> (OneAnswer, One
     let is_kept = |&vertex: &u16| (out.vertex_map[vertex as usize] as u64) < answer.vertices;
     assert_eq!(answer.role, role(&mesh.list, is_kept), "{what}: another role than that of triangle 0");
     (answer, out)
+}
+
+// However many levels are asked, the answer and the mesh that is left are those of so many undos of one. In order all roles are 0,
+// and after all levels the mesh that was split at first is left.
+fn check_undo_several(several: &Several) {
+    let Several { mesh, first, levels } = several;
+    let what = format!("{}, {}", mesh.name, mesh.order);
+    for version in [0, 1] {
+        let undone = undo_ones(version, mesh, *levels);
+        for asked in 0..=MOST_LEVELS {
+            let (answer, left) = &undone[undone.len().min(asked as usize + 1) - 1];
+            check_levels(version, (mesh.vertices as u64, &mesh.list), asked, *answer, left);
+        }
+        let (answer, left) = undone.last().unwrap();
+        assert_eq!(answer.levels as usize, *levels, "{} on {what}: another number of levels", NAMES[version]);
+        if mesh.order == first.order {
+            assert_eq!((answer.vertices as usize, answer.roles), (first.vertices, [0; 7]), "{} on {what}", NAMES[version]);
+            assert!(*left == first.list, "{} on {what}: not the mesh that was split at first", NAMES[version]);
+        }
+    }
+}
+
+// What undo several should answer and leave after no level, one, and so on, by undo one in the least role. Each reading is
+// checked, the roles before it are refused, and after the last level all are.
+fn undo_ones(version: usize, mesh: &Mesh, levels: usize) -> Vec<(SeveralAnswer, Vec<u16>)> {
+    let (vertices, triangles) = (mesh.vertices as u64, mesh.list.len() as u64 / 3);
+    let mut answer = SeveralAnswer { vertices, triangles, ..Default::default() };
+    let mut left = mesh.clone();
+    let mut undone = vec![(answer, left.list.clone())];
+    for level in 0..levels {
+        let (one, out) = undo_one_accepted(version, &left, LEAST);
+        for role in 0..one.role {
+            check_undo_one_refused(version, answer.vertices, &left.list, role, (11, 0));
+        }
+        (answer.vertices, answer.triangles) = (one.vertices, one.triangles);
+        answer.levels += 1;
+        answer.roles[level] = one.role as u8;
+        left = Mesh { vertices: one.vertices as usize, list: out.mesh, ..left };
+        undone.push((answer, left.list.clone()));
+    }
+    for asked in 0..=LEAST {
+        check_undo_one_refused(version, answer.vertices, &left.list, asked, (11, 0));
+    }
+    undone
 }
 
 // The vertices of the mesh that was split, by their numbers in its splitting, in order.

@@ -5,6 +5,7 @@ use std::collections::{BTreeMap, BTreeSet};
 pub const TRIANGLES: usize = 4_096;
 pub const FINE_TRIANGLES: usize = 4 * TRIANGLES;
 
+#[derive(Clone)]
 pub struct Mesh {
     pub name: &'static str,
     pub order: &'static str,
@@ -23,13 +24,33 @@ pub fn to_split() -> Vec<Mesh> {
     in_both_orders([torus("torus", 64, 32), fan(), book(), glued, torus("small", 16, 8)], &mut random)
 }
 
-// The meshes to undo: splittings, and two that no role reads. In a torus with odd sides each role reaches all tiles, four times as many
-// as it may, and in the last each goes further than that.
+// The meshes to undo: splittings, and two that no role reads. In a torus with odd sides each role reaches all tiles, four times as
+// many as it may, and in the last each goes further than that.
 pub fn to_undo() -> Vec<Mesh> {
     let mut random = Random::new();
     let glued = glued(&mut random);
-    let meshes = [torus("torus", 64, 32), split_triangle(6), fan(), book(), glued, torus("small", 16, 8)];
-    in_both_orders(meshes.iter().map(split_of).chain([torus("odd", 127, 63), refused()]), &mut random)
+    let meshes = [torus("torus", 64, 32), split_times(&triangle(), 6), fan(), book(), glued, torus("small", 16, 8)];
+    in_both_orders(meshes.iter().map(split_of).chain([torus("odd", 127, 63), refused(128, 64)]), &mut random)
+}
+
+// A mesh to undo several levels of.
+pub struct Several {
+    pub mesh: Mesh,
+    // The mesh that was split at first, which no role reads, and how many times it was split.
+    pub first: Mesh,
+    pub levels: usize,
+}
+
+// The meshes to undo several levels of: as deep as can be, or of one level, after which `refused` is refused late.
+pub fn to_undo_several() -> Vec<Several> {
+    let mut random = Random::new();
+    let firsts =
+        [(least_torus("torus"), 5), (triangle(), 7), (fan(), 1), (book(), 1), (refused(64, 32), 1), (least_torus("small"), 3)];
+    let both = |(first, levels): (Mesh, usize)| {
+        let orders = in_both_orders([split_times(&first, levels)], &mut random);
+        orders.into_iter().map(move |mesh| Several { mesh, first: first.clone(), levels })
+    };
+    firsts.into_iter().flat_map(both).collect()
 }
 
 // Each mesh in the order that its making gives and shuffled, always the same ones.
@@ -89,9 +110,14 @@ fn glued(random: &mut Random) -> Mesh {
     mesh("random", vertices, triangles)
 }
 
-// A triangle, split so many times.
-fn split_triangle(times: usize) -> Mesh {
-    (0..times).fold(mesh("triangle", 3, vec![[0, 1, 2]]), |mesh, _| split_of(&mesh))
+fn triangle() -> Mesh {
+    mesh("triangle", 3, vec![[0, 1, 2]])
+}
+
+// A torus of 16 triangles on 8 vertices, six at each, whose edges are the pairs of vertices that are 1, 2 or 3 apart in a circle.
+fn least_torus(name: &'static str) -> Mesh {
+    let after = |vertex: usize, places: usize| (vertex + places) % 8;
+    mesh(name, 8, (0..8).flat_map(|a| [[a, after(a, 1), after(a, 3)], [a, after(a, 3), after(a, 2)]]).collect())
 }
 
 // A mesh that all four roles refuse, and late. A torus has a reading in each role: the vertices that it keeps are those with x even
@@ -99,16 +125,14 @@ fn split_triangle(times: usize) -> Mesh {
 // that each have two neighbours of the same sort in common with it. So in each role the coarse mesh has 6 vertices and 18 edges
 // fewer, as many as the whole mesh has lost, and only the vertices of the other three sorts, which would need several numbers,
 // tell.
-fn refused() -> Mesh {
-    const WIDE: usize = 128;
-    const HIGH: usize = 64;
+fn refused(wide: usize, high: usize) -> Mesh {
     const RING: [(isize, isize); 6] = [(4, 2), (2, 4), (-2, 2), (-4, -2), (-2, -4), (2, -2)];
-    let mut mesh = torus("refused", WIDE, HIGH);
+    let mut mesh = torus("refused", wide, high);
     for (i, j) in [(0, 0), (1, 0), (0, 1), (1, 1)] {
-        let (x, y) = (16 + 64 * i + 33 * j, HIGH - 6 + i);
-        let ring = RING.map(|(dx, dy)| y.wrapping_add_signed(dy) * WIDE + x.wrapping_add_signed(dx));
+        let (x, y) = (wide / 8 + wide / 2 * i + (wide / 4 + 1) * j, high - 6 + i);
+        let ring = RING.map(|(dx, dy)| y.wrapping_add_signed(dy) * wide + x.wrapping_add_signed(dx));
         for corner in mesh.list.iter_mut().filter(|corner| ring.contains(&(**corner as usize))) {
-            *corner = (y * WIDE + x) as u16;
+            *corner = (y * wide + x) as u16;
         }
     }
     let used: BTreeSet<u16> = mesh.list.iter().copied().collect();
@@ -122,6 +146,10 @@ fn split_of(mesh: &Mesh) -> Mesh {
     let (vertices, list) = splitting(mesh.vertices, &mesh.list);
     let coarse = mesh.list.chunks_exact(3).flat_map(|t| [Some([t[0], t[1], t[2]]), None, None, None]).collect();
     Mesh { vertices, list, coarse, ..*mesh }
+}
+
+fn split_times(mesh: &Mesh, times: usize) -> Mesh {
+    (0..times).fold(mesh.clone(), |mesh, _| split_of(&mesh))
 }
 
 // The splitting of a list, by a map of edges that neither version has: how many vertices it has, and its triangles.

@@ -1,8 +1,10 @@
 // The calls as a Rust program would have them: the library's steps and tables, on the same lent buffers, with iterators where they
-// go in order and checked indices elsewhere. Here stands what both calls share. Half-edge h runs from corner h to the next corner
+// go in order and checked indices elsewhere. Here stands what all calls share. Half-edge h runs from corner h to the next corner
 // of its triangle.
 pub mod split;
-pub mod undo;
+mod undo;
+pub mod undo_one;
+pub mod undo_several;
 
 const MOST_VERTICES: u64 = 32_767;
 

@@ -1,44 +1,17 @@
-// Undo one.
-use super::{
-    clear, edge_table, has_equal, judge, judge_size, mark_used, number_edges, owners, reach, room, third_vertices, write_fours,
-    Refusal,
-};
-use crate::library::{OneAnswer, OneOutputs, OneWork};
+// What undo one and undo several share: the roles of a mesh.
+use super::{edge_table, has_equal, judge_size, mark_used, number_edges, owners, reach, third_vertices, write_fours, Refusal};
+use std::ops::Range;
 
 const MOST_TRIANGLES: usize = 16_384;
 
-// Never inlined, since the library's call is not either.
-#[inline(never)]
-pub fn undo_one(vertices: u64, list: &[u16], asked: u64, out: &mut OneOutputs, work: &mut OneWork) -> OneAnswer {
-    let sizes = judge_sizes(vertices, list.len(), asked, out, room(work));
-    clear(work);
-    let answer = sizes.and_then(|()| {
-        let found = undo_mesh(vertices as usize, list, asked as usize, out, work);
-        clear(work);
-        found
-    });
-    match answer {
-        Ok((role, vertices)) => {
-            let triangles = list.len() / 12;
-            OneAnswer { refusal: 0, place: 0, vertices: vertices as u64, triangles: triangles as u64, role: role as u64 }
-        }
-        Err(Refusal(refusal, place)) => OneAnswer { refusal, place: place as u64, vertices: 0, triangles: 0, role: 0 },
-    }
-}
+pub const ROLES: Range<usize> = 0..4;
 
-// Refusals 1 to 5.
-fn judge_sizes(vertices: u64, entries: usize, asked: u64, out: &OneOutputs, room: usize) -> Result<(), Refusal> {
-    if asked > 4 {
+// Refusals 1 to 4.
+pub fn judge_numbers(most_asked: u64, asked: u64, vertices: u64, entries: usize) -> Result<(), Refusal> {
+    if asked > most_asked {
         return Err(Refusal(1, 0));
     }
-    judge_size(MOST_TRIANGLES, vertices, entries)?;
-    let vertices = vertices as usize;
-    let triangles = entries / 3;
-    let short = out.mesh.len() < 3 * (triangles / 4) || out.vertex_map.len() < vertices || out.triangle_map.len() < triangles;
-    if short || room < vertices + entries {
-        return Err(Refusal(5, 0));
-    }
-    Ok(())
+    judge_size(MOST_TRIANGLES, vertices, entries)
 }
 
 // What all roles share: the mesh, the half-edge across each half-edge, the covering mesh, its edge table, and the triangle of each
@@ -54,46 +27,48 @@ struct Cover<'a> {
 }
 
 // What each role uses anew. Where a role has a reading, the coarse mesh is left in `coarse` and the maps in `map` and `faces`.
-struct Role<'a> {
-    marks: &'a mut [u16],
-    coarse: &'a mut [u16],
-    numbers: &'a mut [u16],
-    map: &'a mut [u16],
-    faces: &'a mut [u16],
-    table: &'a mut [u16],
+pub struct Role<'a> {
+    pub marks: &'a mut [u16],
+    pub coarse: &'a mut [u16],
+    pub numbers: &'a mut [u16],
+    pub map: &'a mut [u16],
+    pub faces: &'a mut [u16],
+    pub table: &'a mut [u16],
 }
 
-// Refusals 6 to 11, and the reading. Answers the role and how many vertices the coarse mesh has.
-fn undo_mesh(
+// The tables of a cover before it is made, where `first` and `link` hold the edge table of the mesh.
+pub struct Tables<'a> {
+    pub mate: &'a mut [u16],
+    pub rows: &'a mut [u16],
+    pub first: &'a mut [u16],
+    pub link: &'a mut [u16],
+    pub owner: &'a mut [u16],
+}
+
+// The least of the roles that has a reading, and how many vertices its coarse mesh has.
+pub fn least_role(
+    roles: Range<usize>,
     vertices: usize,
     list: &[u16],
-    asked: usize,
-    out: &mut OneOutputs,
-    work: &mut OneWork,
-) -> Result<(usize, usize), Refusal> {
-    let halves = list.len();
-    let triangles = halves / 3;
-    let [mate, rows, first, link, owner, marks, coarse, numbers, map, faces, table] = work;
-    judge(vertices, list, marks, link, first, [&mut *coarse, numbers, map, faces])?;
+    tables: &mut Tables,
+    role: &mut Role,
+) -> Option<(usize, usize)> {
+    let cover = tables.cover(vertices, list, role);
+    roles.into_iter().find_map(|number| Some((number, role.try_role(number, &cover)?)))
+}
 
-    let (mate, rows, owner) = (&mut mate[..halves], &mut rows[..halves], &mut owner[..halves]);
-    mates(&first[..halves], &link[..halves], mate);
-    third_vertices(list, owner);
-    cover_rows(mate, owner, rows);
-    edge_table(vertices, rows, numbers, link, first, [&mut *marks, coarse, map]);
-    owners(owner);
-
-    let cover = Cover { vertices, list, mate, rows, first: &first[..halves], link: &link[..halves], owner };
-    let mut role = Role { marks, coarse, numbers, map, faces, table };
-    let roles = if asked == 4 { 0..4 } else { asked..asked + 1 };
-    let found = roles.into_iter().find_map(|number| Some((number, role.try_role(number, &cover)?)));
-    let found = found.ok_or(Refusal(11, 0))?;
-
-    let corners = 3 * (triangles / 4);
-    out.mesh[..corners].copy_from_slice(&role.coarse[..corners]);
-    out.vertex_map[..vertices].copy_from_slice(&role.map[..vertices]);
-    out.triangle_map[..triangles].copy_from_slice(&role.faces[..triangles]);
-    Ok(found)
+impl Tables<'_> {
+    // Makes the cover, with what a role uses as work buffers.
+    fn cover<'b>(&'b mut self, vertices: usize, list: &'b [u16], role: &mut Role) -> Cover<'b> {
+        let halves = list.len();
+        let (mate, rows, owner) = (&mut self.mate[..halves], &mut self.rows[..halves], &mut self.owner[..halves]);
+        mates(&self.first[..halves], &self.link[..halves], mate);
+        third_vertices(list, owner);
+        cover_rows(mate, owner, rows);
+        edge_table(vertices, rows, role.numbers, self.link, self.first, [&mut *role.marks, &mut *role.coarse, &mut *role.map]);
+        owners(owner);
+        Cover { vertices, list, mate, rows, first: &self.first[..halves], link: &self.link[..halves], owner }
+    }
 }
 
 // The other half-edge on each half-edge's edge where there are exactly two, else the number of half-edges.

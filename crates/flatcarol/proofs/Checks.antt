@@ -8,9 +8,9 @@ use lib.ListN.{length}
 use Rattle.theory.specs.Refusals.{Rule, Room, Short, tooShort, Passed, Refused}
 use Rattle.limits.specs.Judged.{Judged}
 use Rattle.limits.proofs.Judgement.{leastNumber, judged-passed, judged-front}
-use Rattle.flatcarol.specs.Lengths.{least}
-use Rattle.flatcarol.proofs.Buffers.{length-same, roomOf, roomsOf, short-behind, least-short, short-least}
-use Rattle.flatcarol.proofs.Rules.{judged-either, judged-refused, first-passed, second-passed}
+use Rattle.limits.proofs.Rules.{judged-either, judged-refused, first-passed, second-passed}
+use Rattle.lent.specs.Lengths.{least}
+use Rattle.lent.proofs.Buffers.{length-same, roomOf, roomsOf, short-behind, least-short, short-least}
 
 -- The rows of the numbers and the row of the room.
 abbrev pub checks : List Rule → List Room → List Rule

@@ -1,7 +1,6 @@
 -- Laws for the proofs of the public calls.
-pub mod Buffers
 pub mod Checks
-pub mod Rules
 pub mod Splits
 pub mod Undoes
-pub mod UndoneMesh
+pub mod UndoesSeveral
+pub mod WritesFrames

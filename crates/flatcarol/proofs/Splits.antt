@@ -11,11 +11,10 @@ use Rattle.theory.specs.Refusals.{meshRules}
 use Rattle.theory.specs.Calls as promise
 use Rattle.theory.specs.Calls.{Answer, refusal, zeros, workEntries, splitRooms, Splits}
 use Rattle.limits.specs.Judged.{sizeRules}
+use Rattle.limits.proofs.Rules.{Fits, refused-back, passed-back, none-short-fits}
 use Rattle.limits.proofs.Sized.{Sized, sized}
-use Rattle.flatcarol.specs.Splitting.{SplitLent, SplitsMesh, refuses, accepts}
-use Rattle.flatcarol.proofs.Buffers.{Fits, none-short-fits}
+use Rattle.parts.specs.Splitting.{SplitLent, SplitsMesh, refuses, accepts}
 use Rattle.flatcarol.proofs.Checks.{Checked, checks-refused, checks-passed, numbers-passed, none-short}
-use Rattle.flatcarol.proofs.Rules.{refused-back, passed-back}
 
 -- A list of seven.
 abbrev seven : {A : Type 0} → A → A → A → A → A → A → A → List A

@@ -1,21 +1,19 @@
 -- From the parts of undo one to the whole call: where the number asked, sizes and room are right, the call does what
 -- its part that does the work does.
-use Prim.Native.Nat.{ℕ, _≤_}
-use native.Mathlib.Decide.{decLt}
+use Prim.Native.Nat.{ℕ}
 use native.Mathlib.Omega.{arith}
 use mathlib.Core.Path.{_≡_, refl}
 use mathlib.Core.Logic.{_≢_}
 use mathlib.Core.List.{List, [], _∷_, _++_, map}
 use lib.ListN.{length}
-use Rattle.theory.specs.Limits.{mostTriangles}
-use Rattle.theory.specs.Refusals.{Rule, askedTooMuch, noReading, meshRules, Passed}
+use Rattle.theory.specs.Refusals.{Rule, noReading, meshRules}
 use Rattle.theory.specs.Calls as promise
 use Rattle.theory.specs.Calls.{OneAnswer, Outputs, refusal, zeros, workEntries, undoOneRooms, UndoesOne}
-use Rattle.limits.specs.Judged.{sizeRules}
-use Rattle.limits.proofs.Sized.{Sized, sized}
-use Rattle.flatcarol.specs.Undoing.{UndoLent, UndoesMesh, refuses, accepts}
+use Rattle.limits.proofs.Rules.{refused-back, passed-back}
+use Rattle.lent.specs.Sizes.{undoNumberRules}
+use Rattle.lent.proofs.UndoNumbers.{NumbersRight, numbers-right}
+use Rattle.parts.specs.Undoing.{UndoLent, UndoesMesh, refuses, accepts}
 use Rattle.flatcarol.proofs.Checks.{Checked, checks-refused, checks-passed, numbers-passed, none-short}
-use Rattle.flatcarol.proofs.Rules.{refused-back, passed-back}
 
 -- 6 to 11.
 abbrev behind : ℕ → List ℕ → ℕ → List Rule
@@ -24,8 +22,8 @@ behind N T asked = meshRules N T ++ (noReading N T asked ∷ [])
 -- The verdict on 1 to 5.
 pub record UndoChecked (N : ℕ) (T : List ℕ) (asked : ℕ) (out : Outputs) (work : List ℕ) (works : List (List ℕ))
     (number : ℕ) : Type 0 where
-  pub checked : Checked (askedTooMuch 4 asked ∷ sizeRules mostTriangles N (length T)) (undoOneRooms N T out [])
-      (workEntries N T) work works number
+  pub checked : Checked (undoNumberRules 4 asked N (length T)) (undoOneRooms N T out []) (workEntries N T) work works
+      number
 
 module _ {N : ℕ} {T : List ℕ} {asked : ℕ} {out : Outputs} {work : List ℕ} {works : List (List ℕ)} {number : ℕ}
     (C : UndoChecked N T asked out work works number) where
@@ -37,31 +35,21 @@ module _ {N : ℕ} {T : List ℕ} {asked : ℕ} {out : Outputs} {work : List ℕ
       promise.refuses number 0 (checks-refused (C .checked) (behind N T asked) n) said refl cleared
 
   module _ (right : number ≡ 0) where
-    -- the number asked is one that undo one knows
-    asked-known : asked ≤ 4
-    unfolding Passed
-    asked-known =
-        elim (decLt 4 asked) [
-          | yes l ↦ absurd (numbers-passed (C .checked) right .0 0 (l, refl))
-          | no h ↦ omega arith
-        ]
-
-    -- the sizes are right
-    sizes-right : Sized mostTriangles N (length T)
-    unfolding Passed
-    sizes-right = sized mostTriangles N (length T) (numbers-passed (C .checked) right .1)
-
     -- the part that does the work is lent what it asks for, in buffers that are as long
     pub undo-lent : (works′ : List (List ℕ)) → map length works′ ≡ map length (work ∷ works)
         → UndoLent N T asked out works′
-    undo-lent works′ same = record {
-      known = asked-known;
-      whole = omega (arith, sizes-right);
-      some = sizes-right .some;
-      few = sizes-right .few;
-      low = sizes-right .low;
-      enough = none-short (C .checked) right works′ same;
-    }
+    undo-lent works′ same =
+        record {
+          known = numbers .known;
+          whole = omega (arith, numbers .sizes);
+          some = numbers .sizes .some;
+          few = numbers .sizes .few;
+          low = numbers .sizes .low;
+          enough = none-short (C .checked) right works′ same;
+        }
+      where
+        numbers : NumbersRight 4 asked N (length T)
+        numbers = numbers-right 4 asked N (length T) (numbers-passed (C .checked) right)
 
     -- and what it does is what the call does
     pub undo-does : {answer : OneAnswer} {out′ : Outputs} {works′ : List (List ℕ)}

@@ -1,18 +1,13 @@
 // The call undo one.
-use super::answers::OneAnswer;
-use super::answers::accepted_one;
-use super::answers::refused_one;
-use super::sizes::judge_undo_one_size;
-use super::work::clear_eleven;
-use super::work::shortest_of_eleven;
-use judge::judge;
-use lists::copy;
-use undo::cover::cover;
-use undo::roles::chosen_role;
+use lent::sizes::judge_undo_one_size;
+use lent::work::clear_eleven;
+use lent::work::shortest_of_eleven;
+use parts::answers::OneAnswer;
+use parts::answers::refused_one;
+use parts::undo_one_part::undo_mesh;
 ghost use mathlib.Core.List.{[], _∷_};
 ghost use Rattle.theory.specs.Calls.{UndoesOne};
-ghost use Rattle.flatcarol.specs.Answers.{oneAnswerOf, outputs};
-ghost use Rattle.flatcarol.specs.Undoing.{UndoLent, UndoesMesh};
+ghost use Rattle.parts.specs.Answers.{oneAnswerOf, outputs};
 
 // Undoes one split of a mesh of `vertices` vertices, whose triangles are `list`, three corners each, in the role asked
 // of triangle 0 (0 to 3), or in the least role that has a reading (4): the coarse mesh goes to the first entries of
@@ -120,89 +115,4 @@ pub extern "C" fn flatcarol_undo_one(
         work11,
     );
     answer
-}
-
-// Judges 6 to 10, makes the covering mesh and takes the role asked, or the least; gives 11 or writes the reading. It
-// leaves in the work buffers what it pleases.
-fn undo_mesh(
-    vertices: usize,
-    list: &[u16],
-    asked: usize,
-    mesh: &mut [u16],
-    vertex_map: &mut [u16],
-    triangle_map: &mut [u16],
-    mate: &mut [u16],
-    rows: &mut [u16],
-    first: &mut [u16],
-    link: &mut [u16],
-    owner: &mut [u16],
-    marks: &mut [u16],
-    coarse: &mut [u16],
-    numbers: &mut [u16],
-    map: &mut [u16],
-    faces: &mut [u16],
-    table: &mut [u16],
-) -> OneAnswer
-    requires { ⌜ UndoLent vertices (now list) asked (outputs (now mesh) (now «vertex_map») (now «triangle_map»))
-        (now mate ∷ now rows ∷ now first ∷ now link ∷ now owner ∷ now marks ∷ now coarse ∷ now numbers ∷ now map
-        ∷ now faces ∷ now table ∷ []) ⌝ }
-    ensures { λ r. ⌜ UndoesMesh vertices (now (list .entry)) asked
-        (outputs (now (mesh .entry)) (now («vertex_map» .entry)) (now («triangle_map» .entry)))
-        (oneAnswerOf r)
-        (outputs (now (mesh .exit)) (now («vertex_map» .exit)) (now («triangle_map» .exit))) ⌝ }
-{
-    let triangles = list.len() / 3;
-    let verdict = judge(
-        list,
-        vertices,
-        triangles,
-        marks,
-        link,
-        first,
-        coarse,
-        numbers,
-        map,
-        faces,
-    );
-    if verdict.number != 0 {
-        return refused_one(verdict.number, verdict.place);
-    }
-    cover(
-        vertices,
-        triangles,
-        list,
-        first,
-        link,
-        mate,
-        rows,
-        owner,
-        marks,
-        coarse,
-        numbers,
-        map,
-    );
-    let taken = chosen_role(
-        asked,
-        vertices,
-        triangles,
-        list,
-        mate,
-        rows,
-        first,
-        link,
-        owner,
-        marks,
-        coarse,
-        numbers,
-        map,
-        faces,
-        table,
-    );
-    if taken.role == 4 {
-        return refused_one(11, 0);
-    }
-    copy(coarse, mesh, 3 * taken.triangles);
-    copy(map, vertex_map, vertices);
-    copy(faces, triangle_map, triangles);
-    accepted_one(taken.vertices, taken.triangles, taken.role)
 }

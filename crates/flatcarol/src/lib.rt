@@ -1,8 +1,7 @@
-// Flatcarol's public calls, and nothing else. Each takes every input: it judges sizes and room, clears the work
-// buffers, does its work by the crates below, and clears them again. A refusal writes no output buffer. Buffers must
+// Flatcarol's public calls, and nothing else. Each takes every input: it judges sizes and room and clears the work
+// buffers (`lent`), does its work (`parts`), and clears them again. A refusal writes no output buffer. Buffers must
 // not overlap. Assumes nothing.
-pub mod answers;
+pub mod call_frames;
 pub mod call_split;
 pub mod call_undo_one;
-mod sizes;
-mod work;
+pub mod call_undo_several;

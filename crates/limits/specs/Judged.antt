@@ -3,6 +3,7 @@ use Prim.Native.Nat.{ℕ, _/_, _%_}
 use mathlib.Core.Path.{_≡_}
 use mathlib.Core.Logic.{_≢_}
 use mathlib.Core.List.{List, [], _∷_}
+use Rattle.theory.specs.Limits.{mostTriangles}
 use Rattle.theory.specs.Refusals.{Rule, noPlace, tooLarge, Passed, Refused}
 
 -- The number and the place that the rules give, or 0 and 0 where they are passed.
@@ -10,10 +11,15 @@ pub data Judged (rules : List Rule) : ℕ → ℕ → Type 0 where
   passes : Passed rules → Judged rules 0 0
   fails : {number place : ℕ} → Refused rules number place → Judged rules number place
 
--- The rows 2, 3 and 4 of a list of n entries.
+-- The row 2 of a list of n entries.
+abbrev pub entriesNotThrees : ℕ → Rule
+entriesNotThrees n = record { number = 2; given = noPlace (n % 3 ≢ 0) }
+
+-- Its rows 2, 3 and 4.
 abbrev pub sizeRules : ℕ → ℕ → ℕ → List Rule
 sizeRules most N n =
-    record { number = 2; given = noPlace (n % 3 ≢ 0) }
-    ∷ record { number = 3; given = noPlace (n / 3 ≡ 0) }
-    ∷ tooLarge most N (n / 3)
-    ∷ []
+    entriesNotThrees n ∷ record { number = 3; given = noPlace (n / 3 ≡ 0) } ∷ tooLarge most N (n / 3) ∷ []
+
+-- Its rows 2 and 4, where it is written as frames: "Writing frames gives 2, 4, 5 and allows F = 0".
+abbrev pub writeNumberRules : ℕ → ℕ → List Rule
+writeNumberRules N n = entriesNotThrees n ∷ tooLarge mostTriangles N (n / 3) ∷ []

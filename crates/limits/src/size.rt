@@ -2,8 +2,8 @@
 use super::limits::Limits;
 ghost use mathlib.Core.List.{[], _∷_};
 ghost use Rattle.theory.specs.Limits.{mostTriangles, mostSplitTriangles, mostLevels};
-ghost use Rattle.theory.specs.Refusals.{askedTooMuch};
-ghost use Rattle.limits.specs.Judged.{Judged, sizeRules};
+ghost use Rattle.theory.specs.Refusals.{askedTooMuch, tooLarge};
+ghost use Rattle.limits.specs.Judged.{Judged, entriesNotThrees, sizeRules, writeNumberRules};
 
 // 1 of a number of levels asked; 0 where it is not given.
 pub fn judge_levels(asked: u64) -> u64
@@ -40,13 +40,42 @@ pub fn judge_size_to_undo(vertices: u64, entries: usize) -> u64
 fn judge_size(most: u64, vertices: u64, entries: usize) -> u64
     ensures { λ r. ⌜ Judged (sizeRules most vertices entries) r 0 ⌝ }
 {
-    if entries % 3 != 0 {
-        return 2;
+    let number = judge_threes(entries);
+    if number != 0 {
+        return number;
     }
     let triangles = entries / 3;
     if triangles == 0 {
         return 3;
     }
+    judge_large(most, vertices, triangles)
+}
+
+// 2 and 4 of a mesh to write as frames, which may have no triangle; 0 where none is given.
+pub fn judge_size_to_write(vertices: u64, entries: usize) -> u64
+    ensures { λ r. ⌜ Judged (writeNumberRules vertices entries) r 0 ⌝ }
+{
+    let number = judge_threes(entries);
+    if number != 0 {
+        return number;
+    }
+    judge_large(Limits::TRIANGLES, vertices, entries / 3)
+}
+
+// 2 of a list of so many entries; 0 where it is not given.
+fn judge_threes(entries: usize) -> u64
+    ensures { λ r. ⌜ Judged (entriesNotThrees entries ∷ []) r 0 ⌝ }
+{
+    if entries % 3 != 0 {
+        return 2;
+    }
+    0
+}
+
+// 4 of a mesh with these counts, where `most` triangles are allowed; 0 where it is not given.
+fn judge_large(most: u64, vertices: u64, triangles: usize) -> u64
+    ensures { λ r. ⌜ Judged (tooLarge most vertices triangles ∷ []) r 0 ⌝ }
+{
     if most < triangles as u64 {
         return 4;
     }

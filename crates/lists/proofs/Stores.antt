@@ -14,7 +14,11 @@ use Rattle.lists.proofs.Lists.{at-set-same, at-set-other, length-replac
 
 -- ---- single stores
 
--- three stores one behind the other
+-- two stores one behind the other
+pub two-stores : (xs : List ℕ) (i a b : ℕ) → set (set xs i a) (i + 1) b ≡ sets xs i (a ∷ b ∷ [])
+two-stores xs i a b = rw (add-one i)
+
+-- three of them
 pub three-stores : (xs : List ℕ) (i a b c : ℕ)
     → set (set (set xs i a) (i + 1) b) (i + 2) c ≡ sets xs i (a ∷ b ∷ c ∷ [])
 three-stores xs i a b c = rw (add-one i, add-two i)

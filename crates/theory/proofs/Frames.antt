@@ -55,22 +55,22 @@ within-limits m n a b e =
 -- ---- digits
 
 -- a digit below ten is written as 0 to 9
-digit-low : (d : ℕ) → d < 10 → digit d ≡ 48 + d
+pub digit-low : (d : ℕ) → d < 10 → digit d ≡ 48 + d
 unfolding digit
 digit-low d l = rw (lt-ltb d 10 l, digit)
 
 -- any other is written as A to F
-digit-high : (d : ℕ) → 10 ≤ d → digit d ≡ 55 + d
+pub digit-high : (d : ℕ) → 10 ≤ d → digit d ≡ 55 + d
 unfolding digit
 digit-high d l = rw (le-ltb d 10 l, digit)
 
 -- the bytes 0 to 9 stand for the digits below ten
-digitValue-low : (b : ℕ) → 48 ≤ b → b ≤ 57 → digitValue b ≡ some (b - 48)
+pub digitValue-low : (b : ℕ) → 48 ≤ b → b ≤ 57 → digitValue b ≡ some (b - 48)
 unfolding digitValue
 digitValue-low b l m = cc (le-leb 48 b l, le-leb b 57 m)
 
 -- the bytes A to F stand for the digits from ten on
-digitValue-high : (b : ℕ) → 65 ≤ b → b ≤ 70 → digitValue b ≡ some (b - 55)
+pub digitValue-high : (b : ℕ) → 65 ≤ b → b ≤ 70 → digitValue b ≡ some (b - 55)
 unfolding digitValue
 digitValue-high b l m = cc (le-leb 48 b (omega arith), lt-leb b 57 (omega arith), le-leb 65 b l, le-leb b 70 m)
 
@@ -87,7 +87,7 @@ digitValue-digit d l = go (decLt d 10)
         cc (digit-high d (omega arith), digitValue-high (55 + d) (omega arith) (omega arith))
 
 -- a byte that is read as a digit is how that digit is written
-digit-digitValue : (b d : ℕ) → digitValue b ≡ some d → (d < 16) × (digit d ≡ b)
+pub digit-digitValue : (b d : ℕ) → digitValue b ≡ some d → (d < 16) × (digit d ≡ b)
 unfolding digitValue
 digit-digitValue b d e = go (leb 48 b && leb b 57) refl (leb 65 b && leb b 70) refl
   where

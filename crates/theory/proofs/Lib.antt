@@ -28,5 +28,6 @@ pub mod Built
 pub mod Complete
 pub mod Sound
 pub mod Frames
+pub mod FrameDemands
 pub mod ReadingTests
 pub mod Examples

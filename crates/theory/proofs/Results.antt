@@ -125,7 +125,7 @@ smaller-within W = record {
 -- ---- what is found in a buffer
 
 -- what was written stands in the first entries
-take-written : (new old : List ℕ) {n : ℕ} → length new ≡ n → take n (written new old) ≡ new
+pub take-written : (new old : List ℕ) {n : ℕ} → length new ≡ n → take n (written new old) ≡ new
 take-written new old {n} e = take-at new (drop (length new) old) n e
 
 -- ---- what split answers

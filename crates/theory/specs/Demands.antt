@@ -1,5 +1,6 @@
--- The words in which demands 2 and 3 are said and that document 01's rules do not need. The demands themselves are the
--- theorems of `proofs/Demands` and `proofs/SeveralDemands`; no contract speaks of anything here.
+-- The words in which demands 2 and 3, and the like of frames, are said and that document 01's rules do not need. The
+-- theorems are in `proofs/Demands`, `proofs/SeveralDemands` and `proofs/FrameDemands`; no contract speaks of anything
+-- here.
 use Prim.Native.Nat.{ℕ, zero, suc, _+_, _*_, _≤_, _<_}
 use mathlib.Core.Path.{_≡_}
 use mathlib.Core.Logic.{_⊎_, _↔_}
@@ -30,6 +31,10 @@ SameApart N T M S = (f : List ℕ) × (g : List ℕ) × Matched Same f g N T M S
 -- The mesh that a call wrote, as a caller finds it: "the entries it needs", three for each triangle of the answer.
 abbrev pub foundMesh : Answer → List ℕ → List ℕ
 foundMesh answer out = take (3 * answer .triangles) out
+
+-- The frames that a call wrote, as a caller finds them: "11 + 15F bytes", F being the answer's.
+abbrev pub foundBytes : Answer → List ℕ → List ℕ
+foundBytes answer out = take (11 + 15 * answer .triangles) out
 
 -- The reading that undo one of (N, T) wrote, as a caller finds it: the mesh, and V and F entries of the two maps.
 abbrev pub foundReading : ℕ → List ℕ → OneAnswer → Outputs → Reading

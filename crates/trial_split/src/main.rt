@@ -3,9 +3,12 @@
 // and then the first entry of the output that was not to be written (7 as it was lent, 0 where there is none) and the
 // sum of the work buffers.
 use flatcarol::call_split::flatcarol_split;
-use io::print_decimal;
-use io::write_all;
-use std::num::wrapping_add_u64;
+use trial::add_all;
+use trial::end_of;
+use trial::entry;
+use trial::print_line;
+use trial::print_rows;
+use trial::room;
 ghost use Prim.Native.Nat.{_≤_};
 
 fn main() {
@@ -80,19 +83,6 @@ fn try_lent(vertices: u64, list: &[u16], corners: usize, work: usize, short: usi
     );
 }
 
-// How many entries of buffer number `buffer` are lent: `entries`, or one less if it is the short one.
-fn room(entries: usize, buffer: usize, short: usize) -> usize
-    ensures { λ r. ⌜ r ≤ entries ⌝ }
-{
-    if buffer != short {
-        return entries;
-    }
-    if entries == 0 {
-        return 0;
-    }
-    entries - 1
-}
-
 // Calls `flatcarol_split` and prints what comes of it.
 fn split_and_print(
     vertices: u64,
@@ -126,37 +116,10 @@ fn split_and_print(
             answer.triangles,
         ],
     );
-    let end = print_triangles(out, answer.triangles);
+    let end = end_of(out, answer.triangles);
+    print_rows(out, end, 3);
     let sum = sum_of(work1, work2, work3, work4, work5, work6, work7);
     print_line(&[entry(out, end), sum]);
-}
-
-// Prints so many triangles of `out`, or those that it has room for, a line each. Answers the index behind them.
-fn print_triangles(out: &[u16], triangles: u64) -> usize {
-    let mut end: usize = 0;
-    let mut left = triangles;
-    while end + 3 <= out.len() {
-        if left == 0 {
-            return end;
-        }
-        print_line(&[entry(out, end), entry(out, end + 1), entry(out, end + 2)]);
-        end += 3;
-        left -= 1;
-    }
-    end
-}
-
-// Prints the numbers on one line, a space between each two.
-fn print_line(numbers: &[u64]) {
-    let mut i = 0;
-    while i < numbers.len() {
-        if i != 0 {
-            write_all(1, b" ");
-        }
-        print_decimal(1, numbers[i]);
-        i += 1;
-    }
-    write_all(1, b"\n");
 }
 
 // The sum of all entries of the seven lists.
@@ -168,23 +131,4 @@ fn sum_of(a: &[u16], b: &[u16], c: &[u16], d: &[u16], e: &[u16], f: &[u16], g: &
     sum = add_all(e, sum);
     sum = add_all(f, sum);
     add_all(g, sum)
-}
-
-// `sum` and every entry of `list`, added up.
-fn add_all(list: &[u16], sum: u64) -> u64 {
-    let mut total = sum;
-    let mut i = 0;
-    while i < list.len() {
-        total = wrapping_add_u64(total, entry(list, i));
-        i += 1;
-    }
-    total
-}
-
-// The entry of `list` at index `i`, or 0 past its end.
-fn entry(list: &[u16], i: usize) -> u64 {
-    if i < list.len() {
-        return list[i] as u64;
-    }
-    0
 }

@@ -4,10 +4,16 @@
 // has of each output the first entry that was not to be written (1001, 1002 and 1003 as lent, 0 where there is none),
 // how many of all such entries are not as lent, and the sum of the work buffers, which are lent full of 9.
 use flatcarol::call_undo_one::flatcarol_undo_one;
-use io::print_decimal;
 use io::write_all;
-use std::num::wrapping_add_u64;
-ghost use Prim.Native.Nat.{_≤_, _<_};
+use trial::add_all;
+use trial::count_others;
+use trial::entry;
+use trial::print_line;
+use trial::print_rows;
+use trial::put;
+use trial::put_torus;
+use trial::room;
+ghost use Prim.Native.Nat.{_≤_};
 
 // What the entries of the three outputs hold when they are lent.
 const MESH: u16 = 1001;
@@ -193,45 +199,6 @@ fn try_improper() {
     try_undo(5, &[0, 1, 2, 0, 3, 4], LEAST);
 }
 
-// Puts the triangles of the torus into `list`, two for each vertex k, which is in row k / 6 and column k % 6: with the
-// vertex to its right and the one below that, and with that one and the one below k.
-fn put_torus(list: &mut [u16]) {
-    let mut k: u16 = 0;
-    while k < 36 {
-        let row = k / 6 * 6;
-        let below = (row + 6) % 36;
-        let column = k % 6;
-        let right = (column + 1) % 6;
-        put(
-            list,
-            6 * (k as usize),
-            &[
-                k,
-                row + right,
-                below + right,
-                k,
-                below + right,
-                below + column,
-            ],
-        );
-        k += 1;
-    }
-}
-
-// Puts `row` into `list` at index `from`, as far as there is room.
-fn put(list: &mut [u16], from: usize, row: &[u16]) {
-    let mut to = from;
-    let mut i = 0;
-    while to < list.len() {
-        if i == row.len() {
-            return;
-        }
-        list[to] = row[i];
-        to += 1;
-        i += 1;
-    }
-}
-
 // Lends more room than any mesh but the torus needs: at most 12, 12 and 16 entries of output and 58 of work.
 fn try_undo(vertices: u64, list: &[u16], asked: u64) {
     try_lent(vertices, list, asked, 14, 14, 18, 60, 0);
@@ -287,19 +254,6 @@ fn try_lent(
         &mut work10[..room(work, 13, short)],
         &mut work11[..room(work, 14, short)],
     );
-}
-
-// How many entries of buffer number `buffer` are lent: `entries`, or one less if it is the short one.
-fn room(entries: usize, buffer: usize, short: usize) -> usize
-    ensures { λ r. ⌜ r ≤ entries ⌝ }
-{
-    if buffer != short {
-        return entries;
-    }
-    if entries == 0 {
-        return 0;
-    }
-    entries - 1
 }
 
 // Calls `flatcarol_undo_one` and prints what comes of it.
@@ -427,62 +381,6 @@ fn print_outputs(
     );
 }
 
-// Prints the first `count` entries of `list`, `width` on each line.
-fn print_rows(list: &[u16], count: usize, width: usize)
-    requires { ⌜ 0 < width ⌝ }
-{
-    let mut i = 0;
-    while i < count {
-        print_decimal(1, entry(list, i));
-        i += 1;
-        print_gap(i, count, width);
-    }
-}
-
-// What follows the first `i` of `count` entries: the line's end or a space.
-fn print_gap(i: usize, count: usize, width: usize)
-    requires { ⌜ 0 < width ⌝ }
-{
-    if i == count {
-        write_all(1, b"\n");
-        return;
-    }
-    if i % width == 0 {
-        write_all(1, b"\n");
-        return;
-    }
-    write_all(1, b" ");
-}
-
-// Prints the numbers on one line, a space between each two.
-fn print_line(numbers: &[u64]) {
-    let mut i = 0;
-    while i < numbers.len() {
-        print_decimal(1, numbers[i]);
-        i += 1;
-        print_gap(i, numbers.len(), numbers.len());
-    }
-}
-
-// `count` and the number of entries from index `from` on that are not `lent`.
-fn count_others(list: &[u16], from: usize, lent: u16, count: u64) -> u64 {
-    let mut others = count;
-    let mut i = from;
-    while i < list.len() {
-        others = wrapping_add_u64(others, differs(list[i], lent));
-        i += 1;
-    }
-    others
-}
-
-// 1 where the two are different, or else 0.
-fn differs(a: u16, b: u16) -> u64 {
-    if a != b {
-        return 1;
-    }
-    0
-}
-
 // The sum of all entries of the eleven lists.
 fn sum_of(
     a: &[u16],
@@ -508,23 +406,4 @@ fn sum_of(
     sum = add_all(i, sum);
     sum = add_all(j, sum);
     add_all(k, sum)
-}
-
-// `sum` and every entry of `list`, added up.
-fn add_all(list: &[u16], sum: u64) -> u64 {
-    let mut total = sum;
-    let mut i = 0;
-    while i < list.len() {
-        total = wrapping_add_u64(total, entry(list, i));
-        i += 1;
-    }
-    total
-}
-
-// The entry of `list` at index `i`, or 0 past its end.
-fn entry(list: &[u16], i: usize) -> u64 {
-    if i < list.len() {
-        return list[i] as u64;
-    }
-    0
 }

@@ -8,7 +8,7 @@ use lib.ListN.{length}
 use borrow.Author.Needs.{needs}
 use Rattle.theory.specs.Mesh.{at}
 use Rattle.theory.specs.Calls.{zeros}
-use Rattle.flatcarol.proofs.Buffers.{listed, alike-equal, cleared-lengths, cleared-again}
+use Rattle.lent.proofs.Buffers.{listed, alike-equal, cleared-lengths, cleared-again}
 use Rattle.flatcarol.proofs.Splits.{SplitChecked, split-refused, split-lent, split-does}
 use Rattle.flatcarol.proofs.call_split.flatcarol_split.Statement.{statement}
 use Rattle.flatcarol.proofs.call_split.flatcarol_split.Tie as tie

@@ -8,8 +8,8 @@ use lib.ListN.{length}
 use borrow.Author.Needs.{needs}
 use Rattle.theory.specs.Mesh.{at}
 use Rattle.theory.specs.Calls.{zeros}
-use Rattle.flatcarol.specs.Answers.{outputs}
-use Rattle.flatcarol.proofs.Buffers.{listed, alike-equal, cleared-lengths, cleared-again}
+use Rattle.parts.specs.Answers.{outputs}
+use Rattle.lent.proofs.Buffers.{listed, alike-equal, cleared-lengths, cleared-again}
 use Rattle.flatcarol.proofs.Undoes.{UndoChecked, undo-refused, undo-lent, undo-does}
 use Rattle.flatcarol.proofs.call_undo_one.flatcarol_undo_one.Statement.{statement}
 use Rattle.flatcarol.proofs.call_undo_one.flatcarol_undo_one.Tie as tie

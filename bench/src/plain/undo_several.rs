@@ -1,0 +1,63 @@
+// Undo several.
+use super::undo::{judge_numbers, least_role, Role, Tables, ROLES};
+use super::{clear, edge_table, judge, room, Refusal};
+use crate::library::{SeveralAnswer, SeveralWork};
+use std::mem::swap;
+
+const MOST_LEVELS: u64 = 7;
+
+// Never inlined, since the library's call is not either.
+#[inline(never)]
+pub fn undo_several(vertices: u64, list: &[u16], asked: u64, out: &mut [u16], work: &mut SeveralWork) -> SeveralAnswer {
+    let sizes = judge_sizes(vertices, list.len(), asked, out.len(), room(work));
+    clear(work);
+    let answer = sizes.and_then(|()| {
+        let undone = undo_levels(vertices as usize, list, asked, out, work);
+        clear(work);
+        undone
+    });
+    answer.unwrap_or_else(|Refusal(refusal, place)| SeveralAnswer { refusal, place: place as u64, ..Default::default() })
+}
+
+// Refusals 1 to 5.
+fn judge_sizes(vertices: u64, entries: usize, asked: u64, out: usize, room: usize) -> Result<(), Refusal> {
+    judge_numbers(MOST_LEVELS, asked, vertices, entries)?;
+    if out < entries || room < vertices as usize + entries {
+        return Err(Refusal(5, 0));
+    }
+    Ok(())
+}
+
+// Refusals 6 to 10, and the levels. The mesh is judged once: a coarse mesh that a role reads off a proper one is proper too. Where
+// the library calls itself for the next level, this goes round.
+fn undo_levels(
+    vertices: usize,
+    list: &[u16],
+    asked: u64,
+    out: &mut [u16],
+    work: &mut SeveralWork,
+) -> Result<SeveralAnswer, Refusal> {
+    let (mut vertices, mut corners) = (vertices, list.len());
+    let [current, coarse, mate, rows, first, link, owner, marks, numbers, map, faces, table] = work;
+    judge(vertices, list, marks, link, first, [&mut *coarse, numbers, map, table])?;
+
+    let mut current = &mut current[..];
+    current[..corners].copy_from_slice(list);
+    let mut tables = Tables { mate, rows, first, link, owner };
+    let mut role = Role { marks, coarse, numbers, map, faces, table };
+    let mut answer = SeveralAnswer::default();
+    while answer.levels < asked {
+        let Some((number, kept)) = least_role(ROLES, vertices, &current[..corners], &mut tables, &mut role) else {
+            break;
+        };
+        answer.roles[answer.levels as usize] = number as u8;
+        answer.levels += 1;
+        (vertices, corners) = (kept, corners / 4);
+        swap(&mut current, &mut role.coarse);
+        let work = [&mut *role.marks, &mut *role.numbers, &mut *role.faces];
+        edge_table(vertices, &current[..corners], role.map, tables.link, tables.first, work);
+    }
+    out[..corners].copy_from_slice(&current[..corners]);
+    (answer.vertices, answer.triangles) = (vertices as u64, corners as u64 / 3);
+    Ok(answer)
+}

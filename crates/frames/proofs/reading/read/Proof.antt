@@ -1,0 +1,166 @@
+-- `frames::reading::read` meets its contract: the tests are those of `readFrames`, in its order.
+use native.Mathlib.Omega.{arith}
+use Prim.Native.Nat.{ℕ, _≤_, _<_}
+use mathlib.Core.Path.{_≡_, _∙_, sym, ap}
+use mathlib.Core.Option.{some}
+use mathlib.Core.List.{List, [], _∷_}
+use lib.ListN.{length, drop}
+use borrow.Author.Needs.{needs}
+use Rattle.theory.specs.Limits.{mostTriangles, mostVertices}
+use Rattle.theory.specs.Frames.{takeLine, takeTriangles, meshOf, readFrames}
+use Rattle.frames.specs.Given.{meshGiven}
+use Rattle.frames.proofs.Triangles.{whole-taken, refused-not-taken}
+use Rattle.frames.proofs.Verdicts.{read-no-mesh, read-many, read-high, read-short, read-lines}
+use Rattle.frames.proofs.Verdicts.{judged-right, judged-wrong, refused-read, mesh-read}
+use Rattle.frames.proofs.reading.read.Statement.{statement}
+use Rattle.frames.proofs.reading.read.Tie as tie
+
+-- ---- what is known on the way
+
+abbrev start : tie.After-known-told → tie.Start
+start c = c .before .before .before .before .before .before
+
+-- the counts of the mesh
+abbrev N : tie.After-known-told → ℕ
+N c = c .before .vertices .given .0 .0
+
+abbrev F : tie.After-known-told → ℕ
+F c = c .before .vertices .given .0 .1 .0
+
+-- the bytes behind the mesh line
+abbrev rest : tie.After-known-told → List ℕ
+rest c = drop (c .before .vertices .given .0 .1 .1 .0 .at) (start c .args .bytes .now)
+
+-- the mesh line is read
+mesh-line : (c : tie.After-known-told)
+    → takeLine 0x4D 2 (start c .args .bytes .now) ≡ some (record { value = N c ∷ F c ∷ []; rest = rest c })
+mesh-line c =
+    whole-taken _ _
+    (sym (ap (meshGiven _) (c .before .vertices .given .1)) ∙ c .before .before .before .take-mesh .ensures)
+
+-- past the tests of the limits the counts are within them
+within : (c : tie.Else2)
+    → let m = c .before .before in
+    (F m ≤ mostTriangles) × (N m ≤ mostVertices)
+within c =
+    let lent = start (c .before .before) .pre in
+    (omega (arith, lent .triangles, c .before .if1 .left), omega (arith, lent .vertices, c .if2 .left))
+
+-- past that of the room too it goes by the triangle lines
+by-lines : (c : tie.Else3)
+    → let m = c .before .before .before in
+    readFrames (length (start m .args .out .now)) (start m .args .bytes .now)
+    ≡ meshOf (N m) (takeTriangles (F m) 1 [] (rest m))
+by-lines c =
+    let w = within (c .before) in
+    read-lines _ _ _ _ _ (mesh-line (c .before .before .before)) (w .0) (w .1) (c .if3 .left)
+
+-- ---- the answers
+
+take-mesh-requires : tie.Need-take-mesh-requires
+take-mesh-requires c κs = search needs
+
+enum-known-vertices : tie.Need-enum-known-vertices
+enum-known-vertices c = search needs
+
+enum-told : tie.Need-enum-told
+enum-told c = search needs
+
+returns : tie.Need-returns
+returns c =
+    let t = c .before .before in
+    refused-read _ _ _ _ (read-no-mesh _ _
+    (refused-not-taken _ _ (sym (ap (meshGiven _) (c .enum-told .given .1)) ∙ t .take-mesh .ensures)))
+
+cast-if1 : tie.Need-cast-if1
+cast-if1 c = search needs
+
+returns-2 : tie.Need-returns-2
+returns-2 c =
+    let m = c .before in
+    let many : mostTriangles < F m = omega (arith, start m .pre .triangles, c .if1 .taken) in
+    refused-read _ _ _ _ (read-many _ _ _ _ _ (mesh-line m) many)
+
+cast-if2 : tie.Need-cast-if2
+cast-if2 c = search needs
+
+returns-3 : tie.Need-returns-3
+returns-3 c =
+    let m = c .before .before in
+    let high : mostVertices < N m = omega (arith, start m .pre .vertices, c .if2 .taken) in
+    refused-read _ _ _ _ (read-high _ _ _ _ _ (mesh-line m) high)
+
+cast-triangles : tie.Need-cast-triangles
+cast-triangles c = search needs
+
+mul-if3 : tie.Need-mul-if3
+mul-if3 c = search needs
+
+returns-4 : tie.Need-returns-4
+returns-4 c =
+    let w = within (c .before) in
+    refused-read _ _ _ _
+    (read-short _ _ _ _ _ (mesh-line (c .before .before .before)) (w .0) (w .1) (c .if3 .taken))
+
+cast-judge-triangles : tie.Need-cast-judge-triangles
+cast-judge-triangles c = search needs
+
+judge-triangles-requires : tie.Need-judge-triangles-requires
+judge-triangles-requires c κs = search needs
+
+enum-told-2 : tie.Need-enum-told-2
+enum-told-2 c = search needs
+
+enum-told-3 : tie.Need-enum-told-3
+enum-told-3 c = search needs
+
+returns-5 : tie.Need-returns-5
+returns-5 c =
+    let j = c .before .before in
+    let e = c .enum-told3 .given .1 in
+    rw e (refused-read _ _ _ _ (by-lines (j .before) ∙ judged-wrong (j .judge-triangles .ensures) e))
+
+read-triangles-requires : tie.Need-read-triangles-requires
+read-triangles-requires c κs =
+    let j = c .before .before .before in
+    let judged = judged-right (j .judge-triangles .ensures) (c .before .enum-told2 .given .1) in
+    record { list = judged .1; right = judged .2; room = j .before .if3 .left }
+
+same-length : tie.Need-same-length
+same-length c = search needs
+
+returns-6 : tie.Need-returns-6
+unfolding meshOf
+returns-6 c =
+    let r = c .before .before in
+    let j = r .before .before .before .before in
+    let m = j .before .before .before .before in
+    let done = r .read-triangles .ensures in
+    let judged = judged-right (j .judge-triangles .ensures) (r .before .before .enum-told2 .given .1) in
+    rw (judged .0)
+    (mesh-read _ _ _ _ (done .list) (by-lines (j .before) ∙ ap (meshOf (N m)) (done .right)) (done .long)
+    (done .leaves))
+
+pub read-spec : {M : Type 1} → statement M
+read-spec =
+    tie.close
+    (tie.spec
+    take-mesh-requires
+    enum-known-vertices
+    enum-told
+    returns
+    cast-if1
+    returns-2
+    cast-if2
+    returns-3
+    cast-triangles
+    mul-if3
+    returns-4
+    cast-judge-triangles
+    judge-triangles-requires
+    enum-told-2
+    enum-told-3
+    returns-5
+    read-triangles-requires
+    same-length
+    returns-6)

@@ -1,0 +1,54 @@
+-- What judging and reading the frames of a mesh are lent and do, and what document 01 gives for each of their answers.
+use Prim.Native.Nat.{ℕ, _*_, _≤_}
+use mathlib.Core.Path.{_≡_}
+use mathlib.Core.List.{List, []}
+use lib.ListN.{length}
+use Rattle.theory.specs.Limits.{mostTriangles, mostVertices}
+use Rattle.theory.specs.Calls.{Answer, refusal, accepted, written}
+use Rattle.theory.specs.Frames.{Corners, corners, wrongLine, takeTriangles}
+use Rattle.theory.specs.Frames.{Frames, mesh, refused, readFrames, ReadsFrames}
+use Rattle.frames.specs.declared.reading.Verdict.{Verdict}
+use Rattle.frames.specs.declared.reading.Verdict.the-variants as verdict
+
+-- ---- triangle lines
+
+-- The verdict on the triangle lines of a mesh with these counts: all are taken, or "12" at the first that is not.
+pub data LinesJudged (N F : ℕ) (taken : Corners) : Verdict → Type 0 where
+  right : (T : List ℕ) → taken ≡ corners T → LinesJudged N F taken (verdict.Mesh N F)
+  wrong : (line : ℕ) → taken ≡ wrongLine line → LinesJudged N F taken (verdict.Refused 12 line)
+
+-- Triangle lines that are right, with room for their corners.
+pub record TrianglesLent (F : ℕ) (bytes out : List ℕ) : Type 0 where
+  pub list : List ℕ
+  pub right : takeTriangles F 1 [] bytes ≡ corners list
+  pub room : 3 * F ≤ length out
+
+-- Their corners are written in front, three for each.
+pub record TrianglesRead (F : ℕ) (bytes out out′ : List ℕ) : Type 0 where
+  pub list : List ℕ
+  pub right : takeTriangles F 1 [] bytes ≡ corners list
+  pub long : length list ≡ 3 * F
+  pub leaves : out′ ≡ written list out
+
+-- ---- frames
+
+-- The answer to reading a mesh with these corners.
+abbrev pub framesGiven : List ℕ → Verdict → Frames
+framesGiven T (verdict.Mesh vertices triangles) = mesh vertices T
+framesGiven T (verdict.Refused number place) = refused number place
+
+-- The answer of the call read frames: "for frames, those read".
+abbrev pub answerOf : Verdict → Answer
+answerOf (verdict.Mesh vertices triangles) = accepted vertices triangles
+answerOf (verdict.Refused number place) = refusal number place
+
+-- The limits are document 01's.
+pub record FramesLent (most top : ℕ) : Type 0 where
+  pub triangles : most ≡ mostTriangles
+  pub vertices : top ≡ mostVertices
+
+-- The answer says what theory's reader reads, and call and buffer are as promised.
+pub record FramesRead (bytes out : List ℕ) (answer : Verdict) (out′ : List ℕ) : Type 0 where
+  pub list : List ℕ
+  pub says : framesGiven list answer ≡ readFrames (length out) bytes
+  pub promised : ReadsFrames bytes out (answerOf answer) out′

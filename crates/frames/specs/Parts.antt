@@ -1,0 +1,38 @@
+-- What each case of an answer to reading a part of a line says: what was read and the bytes behind the cursor, or that
+-- the part is not there.
+use Prim.Native.Nat.{ℕ}
+use mathlib.Core.Bool.{true, false}
+use mathlib.Core.Option.{Option, none, some}
+use mathlib.Core.List.{List}
+use lib.Dec.{eqb}
+use lib.ListN.{drop}
+use Rattle.theory.specs.Frames.{Taken, takeDigits}
+use Rattle.frames.specs.declared.digits.Digit.{Digit}
+use Rattle.frames.specs.declared.digits.Digit.the-variants as digit
+use Rattle.frames.specs.declared.numbers.Number.{Number}
+use Rattle.frames.specs.declared.numbers.Number.the-variants as number
+use Rattle.frames.specs.declared.numbers.Step.{Step}
+use Rattle.frames.specs.declared.numbers.Step.the-variants as step
+
+-- A digit.
+abbrev pub digitOf : Digit → Option ℕ
+digitOf (digit.Holds value) = some value
+digitOf digit.Wrong = none
+
+-- A number, in bytes of which the cursor counts the ones before it.
+abbrev pub numberOf : List ℕ → Number → Option (Taken ℕ)
+numberOf bytes (number.Holds value cursor) = some (record { value = value; rest = drop (cursor .at) bytes })
+numberOf bytes number.Wrong = none
+
+-- The place behind the one right thing.
+abbrev pub stepOf : List ℕ → Step → Option (List ℕ)
+stepOf bytes (step.Holds cursor) = some (drop (cursor .at) bytes)
+stepOf bytes step.Wrong = none
+
+-- The kind of a line, with which theory's `takeLine` begins.
+unfoldable pub takeKind : ℕ → List ℕ → Option (List ℕ)
+takeKind kind bytes =
+    elim (takeDigits 2 0 bytes) [
+      | none ↦ none
+      | some found ↦ elim (eqb (found .value) kind) [ true ↦ some (found .rest) | false ↦ none ]
+    ]

@@ -1,0 +1,41 @@
+// Hexadecimal digits: the value of a byte, and the byte of a value.
+ghost use mathlib.Core.Path.{_≡_};
+ghost use Prim.Native.Nat.{_<_};
+ghost use Rattle.theory.specs.Frames.{digit, digitValue};
+ghost use Rattle.frames.specs.Parts.{digitOf};
+
+// What a byte stands for as a digit.
+pub enum Digit {
+    Holds(u16),
+    Wrong,
+}
+
+// The digit that a byte stands for: 0 to 9, A to F.
+pub(crate) fn digit_value(byte: u8) -> Digit
+    ensures { λ r. ⌜ digitOf r ≡ digitValue byte ⌝ }
+{
+    if byte < b'0' {
+        return Digit::Wrong;
+    }
+    if byte <= b'9' {
+        return Digit::Holds((byte - b'0') as u16);
+    }
+    if byte < b'A' {
+        return Digit::Wrong;
+    }
+    if byte <= b'F' {
+        return Digit::Holds((byte - b'A' + 10) as u16);
+    }
+    Digit::Wrong
+}
+
+// The byte of the digit `value`.
+pub(crate) fn digit_byte(value: usize) -> u8
+    requires { ⌜ value < 16 ⌝ }
+    ensures { λ r. ⌜ r ≡ digit value ⌝ }
+{
+    if value < 10 {
+        return b'0' + value as u8;
+    }
+    b'A' + (value - 10) as u8
+}

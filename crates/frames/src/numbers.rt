@@ -1,0 +1,76 @@
+// The parts of a line, each read from where a cursor stands: a number of some digits, the line's kind and its end.
+use super::digits::Digit;
+use super::digits::digit_value;
+ghost use mathlib.Core.Path.{_≡_};
+ghost use Prim.Native.Nat.{_≤_};
+ghost use lib.ListN.{drop};
+ghost use Rattle.theory.specs.Frames.{takeDigits, takeEnd};
+ghost use Rattle.frames.specs.Parts.{numberOf, stepOf, takeKind};
+
+// Where to read on.
+pub struct Cursor {
+    pub at: usize,
+}
+
+// What stands at a cursor, read as a number: it with the cursor behind it.
+pub enum Number {
+    Holds { value: u16, cursor: Cursor },
+    Wrong,
+}
+
+// What stands at a cursor, where one thing only is right: the cursor behind it.
+pub enum Step {
+    Holds(Cursor),
+    Wrong,
+}
+
+// A number of so many digits, four at most.
+pub(crate) fn take_number(bytes: &[u8], cursor: Cursor, digits: usize) -> Number
+    requires { ⌜ digits ≤ 4 ⌝ }
+    ensures { λ r. ⌜ numberOf (now (bytes .entry)) r ≡ takeDigits digits 0 (drop (cursor .at) (now (bytes .entry))) ⌝ }
+{
+    let mut at = cursor.at;
+    let mut left = digits;
+    let mut value: u16 = 0;
+    while 0 < left {
+        if bytes.len() <= at {
+            return Number::Wrong;
+        }
+        let Digit::Holds(digit) = digit_value(bytes[at]) else {
+            return Number::Wrong;
+        };
+        value = 16 * value + digit;
+        at += 1;
+        left -= 1;
+    }
+    Number::Holds {
+        value,
+        cursor: Cursor { at },
+    }
+}
+
+// The kind of a line, in two digits.
+pub(crate) fn take_kind(bytes: &[u8], cursor: Cursor, kind: u16) -> Step
+    ensures { λ r. ⌜ stepOf (now (bytes .entry)) r ≡ takeKind kind (drop (cursor .at) (now (bytes .entry))) ⌝ }
+{
+    let Number::Holds { value, cursor } = take_number(bytes, cursor, 2) else {
+        return Step::Wrong;
+    };
+    if value != kind {
+        return Step::Wrong;
+    }
+    Step::Holds(cursor)
+}
+
+// The end of a line, one LF.
+pub(crate) fn take_end(bytes: &[u8], cursor: Cursor) -> Step
+    ensures { λ r. ⌜ stepOf (now (bytes .entry)) r ≡ takeEnd (drop (cursor .at) (now (bytes .entry))) ⌝ }
+{
+    let at = cursor.at;
+    if at < bytes.len() {
+        if bytes[at] == b'\n' {
+            return Step::Holds(Cursor { at: at + 1 });
+        }
+    }
+    Step::Wrong
+}

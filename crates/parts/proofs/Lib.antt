@@ -1,0 +1,4 @@
+-- Laws for the proofs of the functions.
+pub mod Rooms
+pub mod UndoneLevels
+pub mod UndoneMesh
