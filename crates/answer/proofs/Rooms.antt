@@ -8,39 +8,12 @@ use mathlib.Core.List.{List, [], _∷_, _++_}
 use lib.ListN.{drop}
 use Rattle.theory.specs.Limits.{mostTriangles, programVertices}
 use Rattle.theory.specs.Mesh.{at, triangles}
-use Rattle.theory.specs.Refusals.{Rule, noPlace, askedTooMuch, notThrees, noTriangle, tooLarge, noReading, meshRules}
+use Rattle.theory.specs.Refusals.{Rule, askedTooMuch, notThrees, noTriangle, tooLarge, noReading, meshRules}
 use Rattle.theory.specs.Refusals.{Short, Passed, Refused}
 use Rattle.theory.specs.Calls.{Outputs, workRooms, undoOneRules, undoOneRooms}
 use Rattle.theory.specs.Program.{programRooms}
+use Rattle.limits.proofs.Rules.{passed-either, refused-either}
 use Rattle.answer.specs.Answering.{OutputRoom, WorkRoom}
-
--- ---- a row without a place in other words
-
-module _ (number : ℕ) {one other : Type 0} (there : one → other) (back : other → one) (behind : List Rule) where
-  -- rows with either are passed together
-  pub passed-either : (front : List Rule)
-      → Passed (front ++ (record { number = number; given = noPlace one } ∷ behind))
-      → Passed (front ++ (record { number = number; given = noPlace other } ∷ behind))
-  unfolding Passed
-  passed-either [] p = ((λ place given. p .0 place (back (given .0), given .1)), p .1)
-  passed-either (rule ∷ rules) p = (p .0, passed-either rules (p .1))
-
-  -- and refuse the same
-  pub refused-either : (front : List Rule) (n place : ℕ)
-      → Refused (front ++ (record { number = number; given = noPlace one } ∷ behind)) n place
-      → Refused (front ++ (record { number = number; given = noPlace other } ∷ behind)) n place
-  unfolding Refused
-  refused-either [] n place (inl (same, least)) =
-      inl (
-        same,
-        record {
-          here = (there (least .here .0), least .here .1);
-          before = λ earlier l given. least .before earlier l (back (given .0), given .1);
-        },
-      )
-  refused-either [] n place (inr (none, f)) = inr ((λ place given. none place (back (given .0), given .1)), f)
-  refused-either (rule ∷ rules) n place (inl f) = inl f
-  refused-either (rule ∷ rules) n place (inr (none, f)) = inr (none, refused-either rules n place f)
 
 -- ---- rooms
 

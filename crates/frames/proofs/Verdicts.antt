@@ -11,9 +11,10 @@ use lib.ListN.{length}
 use Rattle.theory.specs.Limits.{mostTriangles, mostVertices}
 use Rattle.theory.specs.Mesh.{triangles}
 use Rattle.theory.specs.Calls.{Answer, written}
-use Rattle.theory.specs.Frames.{takeLine, takeTriangles, Corners, corners, mesh, refused, meshOf, readFrames}
+use Rattle.theory.specs.Frames.{takeLine, takeTriangles, mesh, refused, meshOf, readFrames}
 use Rattle.theory.specs.Frames.{readAnswer, readOutput, ReadsFrames}
-use Rattle.frames.specs.Judging.{LinesJudged, right, wrong, answerOf, FramesRead}
+use Rattle.frames.specs.Judging.{LinesJudged, right, wrong, linesToWrite, TrianglesLent, TrianglesRead}
+use Rattle.frames.specs.Judging.{answerOf, FramesRead}
 use Rattle.frames.specs.declared.reading.Verdict.{Verdict}
 use Rattle.frames.specs.declared.reading.Verdict.the-variants.{Mesh, Refused}
 
@@ -57,20 +58,19 @@ module _ (room : ℕ) (bytes : List ℕ) (N F : ℕ) (rest : List ℕ)
 
 -- ---- the verdict on the triangle lines
 
--- where it is a mesh, it has the counts and its corners are taken
-pub judged-right : {N F : ℕ} {taken : Corners} {v : Verdict} {n f : ℕ} → LinesJudged N F taken v → v ≡ Mesh n f
-    → (v ≡ Mesh N F) × (T : List ℕ) × (taken ≡ corners T)
-judged-right (right T e) h = (refl, T, e)
-judged-right (wrong line e) h = let z : _≡_ {A = ℕ} 0 1 = cc in absurd (omega arith)
-
--- where it is a refusal, the mesh is refused so
-pub judged-wrong : {N F : ℕ} {taken : Corners} {v : Verdict} {number place : ℕ} → LinesJudged N F taken v
-    → v ≡ Refused number place → meshOf N taken ≡ refused number place
-unfolding meshOf
-judged-wrong (right T e) h = let z : _≡_ {A = ℕ} 0 1 = cc in absurd (omega arith)
-judged-wrong (wrong line e) h = cc
+-- the lines that may be written are lent
+pub judged-lent : {N F : ℕ} {bytes out : List ℕ} {v : Verdict} {lines : ℕ}
+    → LinesJudged N F (takeTriangles F 1 [] bytes) v → lines ≡ linesToWrite v → 3 * F ≤ length out
+    → TrianglesLent lines bytes out
+judged-lent (right T e) w room = record { list = T; right = λ _. rw w e; room = omega arith }
+judged-lent (wrong line e) w room = record { list = []; right = λ some. absurd (omega arith); room = omega arith }
 
 -- ---- the answers of reading
+
+-- where no corners are written, nothing changes
+none-written : (T out : List ℕ) → length T ≡ 0 → written T out ≡ out
+none-written [] out e = refl
+none-written (corner ∷ T) out e = absurd (omega arith)
 
 module _ (bytes out : List ℕ) where
   -- a refusal, with nothing written
@@ -81,12 +81,24 @@ module _ (bytes out : List ℕ) where
       record { list = []; says = sym e; promised = record { answers = rw e; leaves = rw e } }
 
   -- a mesh, with its corners written
-  pub mesh-read : (N F : ℕ) (T : List ℕ) {out′ : List ℕ} → readFrames (length out) bytes ≡ mesh N T → length T ≡ 3 * F
+  mesh-read : (N F : ℕ) (T : List ℕ) {out′ : List ℕ} → readFrames (length out) bytes ≡ mesh N T → length T ≡ 3 * F
       → out′ ≡ written T out → FramesRead bytes out (Mesh N F) out′
   unfolding readAnswer readOutput
   mesh-read N F T e long leaves =
       let count : F ≡ triangles T = omega arith in
       record { list = T; says = sym e; promised = record { answers = rw (e, count); leaves = rw e leaves } }
+
+  -- the verdict on the triangle lines, with those written that may be
+  pub judged-read : {N F lines : ℕ} {rest out′ : List ℕ} {v : Verdict}
+      → LinesJudged N F (takeTriangles F 1 [] rest) v → lines ≡ linesToWrite v → TrianglesRead lines rest out out′
+      → readFrames (length out) bytes ≡ meshOf N (takeTriangles F 1 [] rest) → FramesRead bytes out v out′
+  unfolding meshOf
+  judged-read {N} {F} (right T e) w done by =
+      let same : T ≡ done .list = done .only T (rw w e) in
+      mesh-read N F T (by ∙ ap (meshOf N) e) (omega (arith, ap length same, done .long)) (rw same (done .leaves))
+  judged-read {N} {out′ = out′} (wrong line e) w done by =
+      let same : out′ ≡ out = done .leaves ∙ none-written (done .list) out (omega (arith, done .long)) in
+      rw same (refused-read 12 line (by ∙ ap (meshOf N) e))
 
 -- an answer made of what was read is the one that is promised
 pub answered : {bytes out : List ℕ} {read made : Verdict} {out′ : List ℕ} {answer : Answer}

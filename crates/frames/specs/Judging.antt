@@ -1,5 +1,5 @@
 -- What judging and reading the frames of a mesh are lent and do, and what document 01 gives for each of their answers.
-use Prim.Native.Nat.{ℕ, _*_, _≤_}
+use Prim.Native.Nat.{ℕ, _*_, _≤_, _<_}
 use mathlib.Core.Path.{_≡_}
 use mathlib.Core.List.{List, []}
 use lib.ListN.{length}
@@ -17,17 +17,22 @@ pub data LinesJudged (N F : ℕ) (taken : Corners) : Verdict → Type 0 where
   right : (T : List ℕ) → taken ≡ corners T → LinesJudged N F taken (verdict.Mesh N F)
   wrong : (line : ℕ) → taken ≡ wrongLine line → LinesJudged N F taken (verdict.Refused 12 line)
 
--- Triangle lines that are right, with room for their corners.
+-- How many of them may be written: all of a mesh's, none where one is refused.
+abbrev pub linesToWrite : Verdict → ℕ
+linesToWrite (verdict.Mesh vertices triangles) = triangles
+linesToWrite (verdict.Refused number place) = 0
+
+-- All triangle lines, which are right, or none of them, with room for their corners.
 pub record TrianglesLent (F : ℕ) (bytes out : List ℕ) : Type 0 where
   pub list : List ℕ
-  pub right : takeTriangles F 1 [] bytes ≡ corners list
+  pub right : 0 < F → takeTriangles F 1 [] bytes ≡ corners list
   pub room : 3 * F ≤ length out
 
 -- Their corners are written in front, three for each.
 pub record TrianglesRead (F : ℕ) (bytes out out′ : List ℕ) : Type 0 where
   pub list : List ℕ
-  pub right : takeTriangles F 1 [] bytes ≡ corners list
   pub long : length list ≡ 3 * F
+  pub only : (T : List ℕ) → takeTriangles F 1 [] bytes ≡ corners T → T ≡ list
   pub leaves : out′ ≡ written list out
 
 -- ---- frames

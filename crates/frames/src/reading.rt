@@ -5,10 +5,12 @@ use super::lines::take_mesh;
 use super::lines::take_triangle;
 use super::numbers::Cursor;
 ghost use Prim.Native.Nat.{_<_};
+ghost use mathlib.Core.Path.{_≡_};
 ghost use mathlib.Core.List.{[]};
 ghost use lib.ListN.{drop};
 ghost use Rattle.theory.specs.Frames.{takeTriangles};
-ghost use Rattle.frames.specs.Judging.{LinesJudged, TrianglesLent, TrianglesRead, FramesLent, FramesRead};
+ghost use Rattle.frames.specs.Judging.{LinesJudged, linesToWrite, TrianglesLent, TrianglesRead};
+ghost use Rattle.frames.specs.Judging.{FramesLent, FramesRead};
 
 // What frames are read as: a mesh, by its counts, or a refusal.
 pub enum Verdict {
@@ -51,6 +53,20 @@ fn judge_triangles(bytes: &[u8], cursor: Cursor, vertices: usize, triangles: usi
         vertices,
         triangles,
     }
+}
+
+// How many triangle lines may be written: all of a mesh's, none where a line is refused.
+fn lines_to_write(verdict: Verdict) -> usize
+    ensures { λ r. ⌜ r ≡ linesToWrite verdict ⌝ }
+{
+    let Verdict::Mesh {
+        vertices: _,
+        triangles,
+    } = verdict
+    else {
+        return 0;
+    };
+    triangles
 }
 
 // Writes the corners of so many triangle lines, which have been judged right.
@@ -115,13 +131,6 @@ pub fn read(bytes: &[u8], most_triangles: u64, most_vertices: u64, out: &mut [u1
         };
     }
     let verdict = judge_triangles(bytes, cursor, vertices as usize, triangles);
-    let Verdict::Mesh {
-        vertices: _,
-        triangles: _,
-    } = verdict
-    else {
-        return verdict;
-    };
-    read_triangles(bytes, cursor, triangles, out);
+    read_triangles(bytes, cursor, lines_to_write(verdict), out);
     verdict
 }

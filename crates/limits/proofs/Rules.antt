@@ -1,4 +1,4 @@
--- Judgements by lists of rows: a last row without a place in other words, rows behind others that are passed, and what
+-- Judgements by lists of rows: a row without a place in other words, rows behind others that are passed, and what
 -- the row of the room leaves.
 use Prim.Native.Nat.{ℕ, _≤_}
 use native.Mathlib.Decide.{decLt}
@@ -8,28 +8,42 @@ use mathlib.Core.Logic.{_≢_, inl, inr}
 use mathlib.Core.List.{List, [], _∷_, _++_}
 use Rattle.theory.specs.Refusals.{Rule, Room, Short, noPlace, Passed, Refused}
 use Rattle.limits.specs.Judged.{Judged, passes, fails}
-use Rattle.limits.proofs.Judgement.{judged-later}
 
--- two last rows without a place whose conditions hold together judge the same
+-- ---- a row without a place in other words
+
+module _ (number : ℕ) {one other : Type 0} (there : one → other) (back : other → one) (behind : List Rule) where
+  -- rows with either are passed together
+  pub passed-either : (front : List Rule)
+      → Passed (front ++ (record { number = number; given = noPlace one } ∷ behind))
+      → Passed (front ++ (record { number = number; given = noPlace other } ∷ behind))
+  unfolding Passed
+  passed-either [] p = ((λ place given. p .0 place (back (given .0), given .1)), p .1)
+  passed-either (rule ∷ rules) p = (p .0, passed-either rules (p .1))
+
+  -- and refuse the same
+  pub refused-either : (front : List Rule) (n place : ℕ)
+      → Refused (front ++ (record { number = number; given = noPlace one } ∷ behind)) n place
+      → Refused (front ++ (record { number = number; given = noPlace other } ∷ behind)) n place
+  unfolding Refused
+  refused-either [] n place (inl (same, least)) =
+      inl (
+        same,
+        record {
+          here = (there (least .here .0), least .here .1);
+          before = λ earlier l given. least .before earlier l (back (given .0), given .1);
+        },
+      )
+  refused-either [] n place (inr (none, f)) = inr ((λ place given. none place (back (given .0), given .1)), f)
+  refused-either (rule ∷ rules) n place (inl f) = inl f
+  refused-either (rule ∷ rules) n place (inr (none, f)) = inr (none, refused-either rules n place f)
+
+-- so do judgements whose last row it is
 pub judged-either : (front : List Rule) (number : ℕ) {verdict place : ℕ} {one other : Type 0} → (one → other)
     → (other → one) → Judged (front ++ (record { number = number; given = noPlace one } ∷ [])) verdict place
     → Judged (front ++ (record { number = number; given = noPlace other } ∷ [])) verdict place
-unfolding Passed Refused
-judged-either [] number there back (passes p) = passes ((λ place given. p .0 place (back (given .0), given .1)), tt)
-judged-either [] number there back (fails (inl (same, least))) =
-    fails (inl (
-      same,
-      record {
-        here = (there (least .here .0), least .here .1);
-        before = λ earlier l given. least .before earlier l (back (given .0), given .1);
-      },
-    ))
-judged-either [] number there back (fails (inr f)) = absurd (f .1)
-judged-either (rule ∷ rules) number there back (passes p) =
-    judged-later (p .0) (judged-either rules number there back (passes (p .1)))
-judged-either (rule ∷ rules) number there back (fails (inl f)) = fails (inl f)
-judged-either (rule ∷ rules) number there back (fails (inr f)) =
-    judged-later (f .0) (judged-either rules number there back (fails (f .1)))
+judged-either front number there back (passes p) = passes (passed-either number there back [] front p)
+judged-either front number {verdict} {place} there back (fails f) =
+    fails (refused-either number there back [] front verdict place f)
 
 -- ---- lists of rows
 

@@ -1,6 +1,6 @@
--- The work of undo one: what `cover` and `chosen_role` are lent, each from what the call is lent and from
--- those before, and what the call comes to.
-use Prim.Native.Nat.{ℕ, _*_, _/_, _≤_, _<_}
+-- The work of undo one: what `cover`, `chosen_role` and `write_reading` are lent, each from what the call is lent and
+-- from those before, and what the call comes to.
+use Prim.Native.Nat.{ℕ, _*_, _/_, _≤_}
 use native.Mathlib.Omega.{arith}
 use mathlib.Core.Path.{_≡_, refl, ap, _∙_}
 use mathlib.Core.Logic.{_≢_, inl}
@@ -8,8 +8,8 @@ use mathlib.Core.List.{List, [], _∷_, _++_}
 use lib.ListN.{length, take, drop, length-take}
 use lib.Seq.{length-take-le}
 use Rattle.theory.specs.Mesh.{triangles, Same}
-use Rattle.theory.specs.Reading.{Reading, Returned}
-use Rattle.theory.specs.Choice.{Chosen, NoneChosen}
+use Rattle.theory.specs.Reading.{Returned}
+use Rattle.theory.specs.Choice.{NoneChosen}
 use Rattle.theory.specs.Refusals.{noReading, meshRules, Passed, Refused}
 use Rattle.theory.specs.Calls.{OneAnswer, Outputs, refusal, accepted, undoOneRooms}
 use Rattle.theory.proofs.Determined.{role-within, chosen-not-refused, quarter}
@@ -22,6 +22,7 @@ use Rattle.undo.specs.Choices.{ChoiceLent, ChosenTried, found, none}
 use Rattle.levels.proofs.Level.{level-cover}
 use Rattle.parts.specs.Answers.{outputs}
 use Rattle.parts.specs.Undoing.{UndoLent, UndoesMesh, refuses, accepts}
+use Rattle.parts.specs.Undoing.{readingIn, ReadingLent, ReadingWritten, RoleAnswered}
 use Rattle.parts.proofs.Rooms.{Buffers, SameLengths, Housed, housed-kept, housed-proper, housed-level}
 
 -- ---- room
@@ -93,44 +94,14 @@ module _ {N : ℕ} {T : List ℕ} {asked : ℕ} {out : Outputs} {answer : OneAns
       refuses number place (judged-refused (judged-front (noReading N T asked ∷ []) (judged .verdict) n) n) said refl
 
   -- one without a reading
-  without : Passed (meshRules N T) → NoneChosen N T asked → answer ≡ record { common = refusal 11 0; role = 0 }
-      → UndoesMesh N T asked out answer out
+  without : {out′ : Outputs} → Passed (meshRules N T) → NoneChosen N T asked
+      → answer ≡ record { common = refusal 11 0; role = 0 } → out′ ≡ out → UndoesMesh N T asked out answer out′
   unfolding Refused
-  without passed c said =
+  without passed c said left =
       refuses 11 0
       (refused-back (meshRules N T) (noReading N T asked ∷ []) 11 0 passed
       (inl (refl, record { here = (c, refl); before = λ earlier l. absurd (omega arith) })))
-      said refl
-
-  -- where role 4 is taken there is none
-  pub unreadable : {F : ℕ} {coarse map faces : List ℕ} {role M n : ℕ} → Passed (meshRules N T)
-      → ChosenTried asked N F T coarse map faces role M n → role ≡ 4
-      → answer ≡ record { common = refusal 11 0; role = 0 } → UndoesMesh N T asked out answer out
-  unreadable passed (found _ R) e said = absurd (omega (arith, role-within (R .inRole)))
-  unreadable passed (none c) e said = without passed c said
-
--- ---- the reading
-
--- The reading that stands in the buffers, with M vertices and n triangles.
-abbrev readingIn : ℕ → List ℕ → Buffers → ℕ → ℕ → Reading
-readingIn N T b M n = record {
-  vertices = M;
-  mesh = take (3 * n) (b .coarse);
-  vertexMap = take N (b .map);
-  triangleMap = take (triangles T) (b .faces);
-}
-
--- A role that is chosen, with its reading in the buffers.
-pub record Taken (asked N : ℕ) (T : List ℕ) (b : Buffers) (role M n : ℕ) : Type 0 where
-  chosen : Chosen N T asked role
-  returned : Returned Same N T role (readingIn N T b M n)
-
--- where role 4 is not taken, a role is chosen
-pub taken : {asked N : ℕ} {T : List ℕ} (b : Buffers) {role M n : ℕ}
-    → ChosenTried asked N (triangles T) T (b .coarse) (b .map) (b .faces) role M n → role ≢ 4
-    → Taken asked N T b role M n
-taken b (found c R) _ = record { chosen = c; returned = R }
-taken b (none _) other = absurd (other refl)
+      said left
 
 -- ---- what is lent
 
@@ -184,45 +155,63 @@ module _ {N : ℕ} {T : List ℕ} {asked : ℕ} {out : Outputs} (b : Buffers) (E
       };
     }
 
-  module _ {role M n : ℕ} (t : Taken asked N T b role M n) where
-    -- the coarse mesh has a quarter of the triangles
-    quartered : triangles T ≡ 4 * n
-    quartered =
-        omega (arith, quarter (t .returned .is), length-take (3 * n) (b .coarse), E .housed .coarse, E .housed .some)
+  -- the coarse mesh has a quarter of the triangles
+  quartered : {role M : ℕ} (n : ℕ)
+      → Returned Same N T role (readingIn N (triangles T) M n (b .coarse) (b .map) (b .faces)) → triangles T ≡ 4 * n
+  quartered n R = omega (arith, quarter (R .is), length-take (3 * n) (b .coarse), E .housed .coarse, E .housed .some)
 
-    -- its corners can be counted
-    pub corners-counted : 3 * n < 65536
-    corners-counted = omega (arith, quartered, E .housed .few)
+  -- what `write_reading` requires, by the size of the coarse mesh where there is one
+  sized : {role n : ℕ} → role ≤ 4 → (role ≢ 4 → triangles T ≡ 4 * n)
+      → ReadingLent N (triangles T) role n (b .coarse) (b .map) (b .faces) out
+  sized known size = record {
+    known = known;
+    coarseRoom = λ other. omega (arith, size other, E .housed .coarse);
+    mapRoom = omega (arith, E .housed .rooms .mapRoom);
+    facesRoom = omega (arith, E .housed .rooms .facesRoom);
+    mesh = λ other. omega (arith, size other, E .mesh);
+    vertexMap = E .vertexMap;
+    triangleMap = E .triangleMap;
+  }
 
-    -- what the copy of the coarse mesh requires
-    pub mesh-copied : (3 * n ≤ length (b .coarse)) × (3 * n ≤ length (out .mesh))
-    mesh-copied = (omega (arith, quartered, E .housed .coarse), omega (arith, quartered, E .mesh))
+  -- it has what it requires after the choice
+  pub writable : {role M n : ℕ} → ChosenTried asked N (triangles T) T (b .coarse) (b .map) (b .faces) role M n
+      → ReadingLent N (triangles T) role n (b .coarse) (b .map) (b .faces) out
+  writable {n = n} (found _ R) = sized (omega (arith, role-within (R .inRole))) (λ _. quartered n R)
+  writable (none _) = sized (omega arith) (λ other. absurd (other refl))
 
-    -- that of the vertex map
-    pub vertices-copied : (N ≤ length (b .map)) × (N ≤ length (out .vertexMap))
-    vertices-copied = (omega (arith, E .housed .rooms .mapRoom), E .vertexMap)
+  -- what is written and answered is what the call does
+  pub concluding : {role M n : ℕ} {answer : OneAnswer} {out′ : Outputs} → Passed (meshRules N T)
+      → ChosenTried asked N (triangles T) T (b .coarse) (b .map) (b .faces) role M n
+      → ReadingWritten role (readingIn N (triangles T) M n (b .coarse) (b .map) (b .faces)) out out′
+      → RoleAnswered role M n answer → UndoesMesh N T asked out answer out′
+  unfolding Passed
+  concluding passed (none c) wrote said = without passed c (said .none refl) (wrote .none refl)
+  concluding {role} {M} {n} passed (found c R) wrote said =
+      let other : role ≢ 4 = λ e. omega (arith, role-within (R .inRole)) in
+      let long : length (take (3 * n) (b .coarse)) ≡ 3 * n =
+      length-take-le _ _ (omega (arith, quartered n R, E .housed .coarse)) in
+      let size : n ≡ triangles (take (3 * n) (b .coarse)) = omega arith in
+      accepts role (readingIn N (triangles T) M n (b .coarse) (b .map) (b .faces))
+      (passed-back (meshRules N T) (noReading N T asked ∷ []) passed
+      ((λ place given. chosen-not-refused c (given .0)), tt))
+      c R
+      (said .taken other ∙ ap (λ (k : ℕ). record { common = accepted M k; role = role }) size)
+      (wrote .taken other)
 
-    -- and that of the triangle map
-    pub triangles-copied : (triangles T ≤ length (b .faces)) × (triangles T ≤ length (out .triangleMap))
-    triangles-copied = (omega (arith, E .housed .rooms .facesRoom), E .triangleMap)
+-- ---- the copies
 
-    -- copied, the reading is written
-    pub accepting : {answer : OneAnswer} {mesh vertexMap triangleMap : List ℕ} → Passed (meshRules N T)
-        → mesh ≡ take (3 * n) (b .coarse) ++ drop (3 * n) (out .mesh)
-        → vertexMap ≡ take N (b .map) ++ drop N (out .vertexMap)
-        → triangleMap ≡ take (triangles T) (b .faces) ++ drop (triangles T) (out .triangleMap)
-        → answer ≡ record { common = accepted M n; role = role }
-        → UndoesMesh N T asked out answer (outputs mesh vertexMap triangleMap)
-    unfolding Passed
-    accepting passed wroteMesh wroteVertices wroteTriangles said =
-        let meshLong : length (take (3 * n) (b .coarse)) ≡ 3 * n = length-take-le _ _ (mesh-copied .0) in
-        let verticesLong : length (take N (b .map)) ≡ N = length-take-le _ _ (vertices-copied .0) in
-        let trianglesLong : length (take (triangles T) (b .faces)) ≡ triangles T =
-        length-take-le _ _ (triangles-copied .0) in
-        let size : n ≡ triangles (take (3 * n) (b .coarse)) = omega arith in
-        accepts role (readingIn N T b M n)
-        (passed-back (meshRules N T) (noReading N T asked ∷ []) passed
-        ((λ place given. chosen-not-refused (t .chosen) (given .0)), tt))
-        (t .chosen) (t .returned)
-        (said ∙ ap (λ (k : ℕ). record { common = accepted M k; role = role }) size)
-        (rw (meshLong, verticesLong, trianglesLong, wroteMesh, wroteVertices, wroteTriangles))
+-- copied to outputs with room for it, a reading is written
+pub reading-copied : {N F role n : ℕ} {coarse map faces : List ℕ} {out : Outputs} (M : ℕ)
+    → ReadingLent N F role n coarse map faces out → role ≢ 4 → {mesh vertexMap triangleMap : List ℕ}
+    → mesh ≡ take (3 * n) coarse ++ drop (3 * n) (out .mesh)
+    → vertexMap ≡ take N map ++ drop N (out .vertexMap)
+    → triangleMap ≡ take F faces ++ drop F (out .triangleMap)
+    → ReadingWritten role (readingIn N F M n coarse map faces) out (outputs mesh vertexMap triangleMap)
+reading-copied {N} {F} {n = n} {coarse} {map} {faces} M L other wroteMesh wroteVertices wroteTriangles =
+    let meshLong : length (take (3 * n) coarse) ≡ 3 * n = length-take-le _ _ (L .coarseRoom other) in
+    let verticesLong : length (take N map) ≡ N = length-take-le _ _ (L .mapRoom) in
+    let trianglesLong : length (take F faces) ≡ F = length-take-le _ _ (L .facesRoom) in
+    record {
+      none = λ e. absurd (other e);
+      taken = λ _. rw (meshLong, verticesLong, trianglesLong, wroteMesh, wroteVertices, wroteTriangles);
+    }

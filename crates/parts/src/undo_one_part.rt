@@ -5,10 +5,12 @@ use super::answers::refused_one;
 use judge::judge;
 use lists::copy;
 use undo::cover::cover;
+use undo::roles::Least;
 use undo::roles::chosen_role;
 ghost use mathlib.Core.List.{[], _∷_};
 ghost use Rattle.parts.specs.Answers.{oneAnswerOf, outputs};
 ghost use Rattle.parts.specs.Undoing.{UndoLent, UndoesMesh};
+ghost use Rattle.parts.specs.Undoing.{readingIn, ReadingLent, ReadingWritten, RoleAnswered};
 
 // Judges 6 to 10, makes the covering mesh and takes the role asked, or the least; gives 11 or writes the reading. It
 // leaves in the work buffers what it pleases.
@@ -86,11 +88,54 @@ pub fn undo_mesh(
         faces,
         table,
     );
+    write_reading(
+        taken,
+        vertices,
+        triangles,
+        coarse,
+        map,
+        faces,
+        mesh,
+        vertex_map,
+        triangle_map,
+    );
+    answer_role(taken)
+}
+
+// Writes the reading that stands in `coarse`, `map` and `faces` to the outputs, and nothing where there is none.
+fn write_reading(
+    reading: Least,
+    vertices: usize,
+    triangles: usize,
+    coarse: &[u16],
+    map: &[u16],
+    faces: &[u16],
+    mesh: &mut [u16],
+    vertex_map: &mut [u16],
+    triangle_map: &mut [u16],
+)
+    requires { ⌜ ReadingLent vertices triangles (reading .role) (reading .triangles) (now coarse) (now map) (now faces)
+        (outputs (now mesh) (now «vertex_map») (now «triangle_map»)) ⌝ }
+    ensures { λ _. ⌜ ReadingWritten (reading .role)
+        (readingIn vertices triangles (reading .vertices) (reading .triangles) (now (coarse .entry)) (now (map .entry))
+        (now (faces .entry)))
+        (outputs (now (mesh .entry)) (now («vertex_map» .entry)) (now («triangle_map» .entry)))
+        (outputs (now (mesh .exit)) (now («vertex_map» .exit)) (now («triangle_map» .exit))) ⌝ }
+{
+    if reading.role == 4 {
+        return;
+    }
+    copy(coarse, mesh, 3 * reading.triangles);
+    copy(map, vertex_map, vertices);
+    copy(faces, triangle_map, triangles);
+}
+
+// The counts of the coarse mesh and the role taken, or 11 where there is none.
+fn answer_role(taken: Least) -> OneAnswer
+    ensures { λ r. ⌜ RoleAnswered (taken .role) (taken .vertices) (taken .triangles) (oneAnswerOf r) ⌝ }
+{
     if taken.role == 4 {
         return refused_one(11, 0);
     }
-    copy(coarse, mesh, 3 * taken.triangles);
-    copy(map, vertex_map, vertices);
-    copy(faces, triangle_map, triangles);
     accepted_one(taken.vertices, taken.triangles, taken.role)
 }

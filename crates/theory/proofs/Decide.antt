@@ -1,19 +1,19 @@
--- `On`, an edge, sameness, a shared edge, `Reach` and being proper are decided. Each has a Bool test that computes
--- (`..Test`), a proof that the test passes only where it is so (`..-sound`) and one that it passes wherever it is so
--- (`..-complete`), and the decision made from these (`..?`).
+-- `On`, an edge, its being regular, sameness, a shared edge, `Reach` and being proper are decided. Each has a Bool test
+-- that computes (`..Test`), a proof that the test passes only where it is so (`..-sound`) and one that it passes
+-- wherever it is so (`..-complete`), and the decision made from these (`..?`).
 -- Whoever computes with a test or a decision says `unfolding` and its name: it opens all that it is made of.
 use Prim.Native.Nat.{ℕ, zero, suc, _+_, _-_, _*_, _/_, _%_, _≤_, _<_, min}
 use native.Mathlib.Omega.{arith}
 use mathlib.Core.Path.{_≡_, refl, sym, ap, _∙_, subst}
 use mathlib.Core.Logic.{_≢_, _⊎_, inl, inr}
-use mathlib.Core.Bool.{Bool, true, false, not, _&&_}
+use mathlib.Core.Bool.{Bool, true, false, not, _&&_, _||_}
 use mathlib.Core.List.{List, [], _∷_, _++_, List·Memᴰ as Member, List·Memᴰ·head as first, List·Memᴰ·tail as later}
 use mathlib.Core.List.{Memᴰ·cast as member-cast, Memᴰ·append-left as member-left, Memᴰ·append-right as member-right}
 use mathlib.Core.List.{List·Memᴰ·append-cases as member-append}
 use lib.Dec.{T as So, T-not, not-T, eqb, ltb, eqb→eq, ltb→lt, lt→ltb}
 use lib.ListN.{length, take, drop, length-append, length-take, length-drop}
 use lib.Seq.{getD-take, getD-drop}
-use Rattle.theory.specs.Mesh.{at, triangles, On, HasEdge, Same, Share, Reach, here, step}
+use Rattle.theory.specs.Mesh.{at, triangles, On, HasEdge, Regular, Same, Share, Reach, here, step}
 use Rattle.theory.specs.Mesh.{OtherwiseProper, Proper}
 use Rattle.theory.proofs.Tests.{
   decided,
@@ -21,7 +21,13 @@ use Rattle.theory.proofs.Tests.{
   and-complete,
   and₅-sound,
   and₅-complete,
+  or-sound,
+  or-left,
+  or-right,
   eq→eqb,
+  someOf,
+  someOf-sound,
+  someOf-complete,
   allOf,
   allOf-sound,
   allOf-complete,
@@ -71,13 +77,13 @@ corners-corner : (T : List ℕ) (c k : ℕ) → c / 3 ≡ k → at (corners T k)
 corners-corner T c k e = corners-at T k (c % 3) (omega arith) ∙ ap (at T) (omega arith)
 
 -- what is on a triangle stands at one of its corners
-on-member : (T : List ℕ) (k v : ℕ) → On T k v → Member v (corners T k)
+pub on-member : (T : List ℕ) (k v : ℕ) → On T k v → Member v (corners T k)
 on-member T k v o =
     member-cast (sym (o .holds) ∙ sym (corners-corner T (o .corner) k (o .triangle)))
     (at-member (corners T k) (o .corner % 3) (omega (arith, corners-length T k)))
 
 -- what stands at a corner of a triangle is on it
-member-on : (T : List ℕ) (k v : ℕ) → Member v (corners T k) → On T k v
+pub member-on : (T : List ℕ) (k v : ℕ) → Member v (corners T k) → On T k v
 member-on T k v m = go (member-at m)
   where
     go : (i : ℕ) × (i < length (corners T k)) × (at (corners T k) i ≡ v) → On T k v
@@ -133,6 +139,90 @@ hasEdgeTest-complete T k u v h =
 unfoldable pub hasEdge? : (T : List ℕ) (k u v : ℕ) → Dec (HasEdge T k u v)
 unfolding hasEdgeTest
 hasEdge? T k u v = decided (hasEdgeTest T k u v) (hasEdgeTest-sound T k u v) (hasEdgeTest-complete T k u v)
+
+-- ---- Regular
+
+-- what is on a triangle, even a last one of fewer than three corners, is on one up to F
+pub on-le : {T : List ℕ} {k v : ℕ} → On T k v → k ≤ triangles T
+on-le o = omega arith
+
+-- the triangles that have the edge u-v
+unfoldable pub havingEdge : List ℕ → ℕ → ℕ → List ℕ
+unfolding passing hasEdgeTest numbers
+havingEdge T u v = passing (λ k. hasEdgeTest T k u v) (numbers (triangles T + 1))
+
+-- those in the list have it
+havingEdge-sound : (T : List ℕ) (u v k : ℕ) → Member k (havingEdge T u v) → HasEdge T k u v
+unfolding havingEdge
+havingEdge-sound T u v k m = hasEdgeTest-sound T k u v
+    (passing-sound (λ l. hasEdgeTest T l u v) (numbers (triangles T + 1)) k m .1)
+
+-- and those that have it are in the list
+havingEdge-complete : (T : List ℕ) (u v k : ℕ) → HasEdge T k u v → Member k (havingEdge T u v)
+unfolding havingEdge
+havingEdge-complete T u v k h =
+    passing-complete (λ l. hasEdgeTest T l u v) (numbers (triangles T + 1)) k
+    (below-numbers (triangles T + 1) k (omega (arith, on-le (h .oneEnd)))) (hasEdgeTest-complete T k u v h)
+
+-- j and k differ, and the list has no other entry
+unfoldable pub twoTest : List ℕ → ℕ → ℕ → Bool
+unfolding allOf
+twoTest ks j k = not (eqb j k) && allOf (λ l. eqb l j || eqb l k) ks
+
+-- some two of the triangles that have the edge are all
+unfoldable pub regularTest : List ℕ → ℕ → ℕ → Bool
+unfolding someOf havingEdge twoTest
+regularTest T u v =
+    let ks : List ℕ = havingEdge T u v in
+    someOf (λ j. someOf (twoTest ks j) ks) ks
+
+pub regularTest-sound : (T : List ℕ) (u v : ℕ) → So (regularTest T u v) → Regular T u v
+unfolding regularTest twoTest
+regularTest-sound T u v t = outer (someOf-sound (λ j. someOf (twoTest ks j) ks) ks t)
+  where
+    ks : List ℕ
+    ks = havingEdge T u v
+
+    other : (j k l : ℕ) → So (eqb l j) ⊎ So (eqb l k) → (l ≡ j) ⊎ (l ≡ k)
+    other j k l (inl e) = inl (eqb→eq l j e)
+    other j k l (inr e) = inr (eqb→eq l k e)
+
+    inner : (j : ℕ) → Member j ks → (k : ℕ) × Member k ks × So (twoTest ks j k) → Regular T u v
+    inner j m (k, n, s) =
+        let both = and-sound (not (eqb j k)) (allOf (λ l. eqb l j || eqb l k) ks) s in
+        record {
+          one = j;
+          two = k;
+          differ = λ e. T-not (eqb j k) (both .0) (eq→eqb j k e);
+          hasOne = havingEdge-sound T u v j m;
+          hasTwo = havingEdge-sound T u v k n;
+          others = λ l h. other j k l (or-sound (eqb l j) (eqb l k)
+              (allOf-sound (λ l. eqb l j || eqb l k) ks (both .1) l (havingEdge-complete T u v l h)));
+        }
+
+    outer : (j : ℕ) × Member j ks × So (someOf (twoTest ks j) ks) → Regular T u v
+    outer (j, m, s) = inner j m (someOf-sound (twoTest ks j) ks s)
+
+pub regularTest-complete : (T : List ℕ) (u v : ℕ) → Regular T u v → So (regularTest T u v)
+unfolding regularTest twoTest
+regularTest-complete T u v r =
+    someOf-complete (λ j. someOf (twoTest ks j) ks) ks (r .one) (havingEdge-complete T u v (r .one) (r .hasOne))
+    (someOf-complete (twoTest ks (r .one)) ks (r .two) (havingEdge-complete T u v (r .two) (r .hasTwo))
+    (and-complete (not (eqb (r .one) (r .two))) (allOf (λ l. eqb l (r .one) || eqb l (r .two)) ks)
+    (not-T (eqb (r .one) (r .two)) (λ t. r .differ (eqb→eq (r .one) (r .two) t)))
+    (allOf-complete (λ l. eqb l (r .one) || eqb l (r .two)) ks
+    (λ l m. other l (r .others l (havingEdge-sound T u v l m))))))
+  where
+    ks : List ℕ
+    ks = havingEdge T u v
+
+    other : (l : ℕ) → (l ≡ r .one) ⊎ (l ≡ r .two) → So (eqb l (r .one) || eqb l (r .two))
+    other l (inl e) = or-left (eqb l (r .one)) (eqb l (r .two)) (eq→eqb l (r .one) e)
+    other l (inr e) = or-right (eqb l (r .one)) (eqb l (r .two)) (eq→eqb l (r .two) e)
+
+unfoldable pub regular? : (T : List ℕ) (u v : ℕ) → Dec (Regular T u v)
+unfolding regularTest
+regular? T u v = decided (regularTest T u v) (regularTest-sound T u v) (regularTest-complete T u v)
 
 -- ---- Same
 
@@ -354,10 +444,6 @@ reachTest-sound T k l t =
     start : (i : ℕ) → Member i (k ∷ []) → Reach T k i
     start i (first e) = rw e here
     start i (later m) = elim m [ ]
-
--- what is on a triangle, even a last one of fewer than three corners, is on one up to F
-pub on-le : {T : List ℕ} {k v : ℕ} → On T k v → k ≤ triangles T
-on-le o = omega arith
 
 -- step by step, none leaves the triangles reached
 reach-reached : {T : List ℕ} {k l : ℕ} → Reach T k l → Member l (reached T k)

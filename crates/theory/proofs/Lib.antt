@@ -1,6 +1,6 @@
 -- The theorems about the definitions of specs/, bottom up: a file cites only files above it. First numbers, lists and
 -- meshes in general, then the splitting, then readings, then the calls and the demands, then what an undo builds; the
--- frames stand for themselves.
+-- frames stand for themselves; last, that readings are decided.
 pub mod Tests
 pub mod Finite
 pub mod Counting
@@ -30,4 +30,4 @@ pub mod Sound
 pub mod Frames
 pub mod FrameDemands
 pub mod ReadingTests
-pub mod Examples
+pub mod Undoing

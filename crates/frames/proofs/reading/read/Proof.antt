@@ -11,7 +11,7 @@ use Rattle.theory.specs.Frames.{takeLine, takeTriangles, meshOf, readFrames}
 use Rattle.frames.specs.Given.{meshGiven}
 use Rattle.frames.proofs.Triangles.{whole-taken, refused-not-taken}
 use Rattle.frames.proofs.Verdicts.{read-no-mesh, read-many, read-high, read-short, read-lines}
-use Rattle.frames.proofs.Verdicts.{judged-right, judged-wrong, refused-read, mesh-read}
+use Rattle.frames.proofs.Verdicts.{judged-lent, refused-read, judged-read}
 use Rattle.frames.proofs.reading.read.Statement.{statement}
 use Rattle.frames.proofs.reading.read.Tie as tie
 
@@ -108,38 +108,25 @@ cast-judge-triangles c = search needs
 judge-triangles-requires : tie.Need-judge-triangles-requires
 judge-triangles-requires c κs = search needs
 
-enum-told-2 : tie.Need-enum-told-2
-enum-told-2 c = search needs
-
-enum-told-3 : tie.Need-enum-told-3
-enum-told-3 c = search needs
-
-returns-5 : tie.Need-returns-5
-returns-5 c =
-    let j = c .before .before in
-    let e = c .enum-told3 .given .1 in
-    rw e (refused-read _ _ _ _ (by-lines (j .before) ∙ judged-wrong (j .judge-triangles .ensures) e))
+lines-to-write-requires : tie.Need-lines-to-write-requires
+lines-to-write-requires c κs = search needs
 
 read-triangles-requires : tie.Need-read-triangles-requires
 read-triangles-requires c κs =
-    let j = c .before .before .before in
-    let judged = judged-right (j .judge-triangles .ensures) (c .before .enum-told2 .given .1) in
-    record { list = judged .1; right = judged .2; room = j .before .if3 .left }
+    let w = c .before in
+    let j = w .before in
+    judged-lent (j .judge-triangles .ensures) (w .lines-to-write .ensures) (j .before .if3 .left)
 
 same-length : tie.Need-same-length
 same-length c = search needs
 
-returns-6 : tie.Need-returns-6
-unfolding meshOf
-returns-6 c =
+returns-5 : tie.Need-returns-5
+returns-5 c =
     let r = c .before .before in
-    let j = r .before .before .before .before in
-    let m = j .before .before .before .before in
-    let done = r .read-triangles .ensures in
-    let judged = judged-right (j .judge-triangles .ensures) (r .before .before .enum-told2 .given .1) in
-    rw (judged .0)
-    (mesh-read _ _ _ _ (done .list) (by-lines (j .before) ∙ ap (meshOf (N m)) (done .right)) (done .long)
-    (done .leaves))
+    let w = r .before .before in
+    let j = w .before in
+    judged-read _ _ (j .judge-triangles .ensures) (w .lines-to-write .ensures) (r .read-triangles .ensures)
+    (by-lines (j .before))
 
 pub read-spec : {M : Type 1} → statement M
 read-spec =
@@ -158,9 +145,7 @@ read-spec =
     returns-4
     cast-judge-triangles
     judge-triangles-requires
-    enum-told-2
-    enum-told-3
-    returns-5
+    lines-to-write-requires
     read-triangles-requires
     same-length
-    returns-6)
+    returns-5)

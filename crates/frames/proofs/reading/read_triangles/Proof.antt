@@ -60,15 +60,19 @@ module _ {bytes : List ℕ} {F start : ℕ} {out₀ out : List ℕ} {place k : �
 
   -- no line is wrong
   no-wrong : {A : Type 0} → k < F → takeLine 0x46 3 (drop place bytes) ≡ none → A
-  no-wrong l e = absurd (reached-not-wrong (I .reached) (I .lent .list) l (I .lent .right) e)
+  no-wrong l e = absurd (reached-not-wrong (I .reached) (I .lent .list) l (I .lent .right (omega arith)) e)
 
   -- all lines are read
   finished : F ≤ k → TrianglesRead F (drop start bytes) out₀ out
   finished l =
-      let all : I .lent .list ≡ I .so-far = reached-right (I .reached) (I .lent .list) l (I .lent .right) in
       let n : length (I .so-far) ≡ 3 * F = omega (arith, I .long, I .within) in
       let m : length (I .so-far) ≡ 3 * k = I .long in
-      record { list = I .so-far; right = rw all at (I .lent .right); long = n; leaves = rw m (I .begins) }
+      record {
+        list = I .so-far;
+        long = n;
+        only = λ T right. reached-right (I .reached) T l right;
+        leaves = rw m (I .begins);
+      }
 
 abbrev Inv-loop : tie.InvT-loop
 Inv-loop bytes triangles out₀ cursor₀ k₀ out cursor k = Turn bytes triangles (cursor₀ .at) out₀ out (cursor .at) k

@@ -5,7 +5,10 @@ use native.Mathlib.Omega.{arith}
 use Prim.Native.Nat.{ℕ, _-_, _*_, _/_, _≤_, _<_}
 use mathlib.Core.Path.{_≡_, _∙_, refl, sym}
 use mathlib.Core.Logic.{_⊎_, inl, inr, ⊎-elim}
+use mathlib.Core.Bool.{Bool, true, false, _&&_}
 use mathlib.Core.List.{List}
+use borrow.Author.Tests.{ltb-true}
+use lib.Dec.{ltb}
 use lib.ListN.{length}
 use Rattle.theory.specs.Mesh.{at}
 use Rattle.mesh.specs.Reached.{Grown, VisitLent, Visited, Linked, itself, behind, HasLinked}
@@ -102,6 +105,17 @@ module _ {first F : ℕ} {link owners : List ℕ} {filled : ℕ} {marks₀ queue
   onward : {next : ℕ} → h < 3 * F → next ≡ at link h → h < next
   onward l e = omega (arith, T .lent .forward h l)
 
+-- a test that asks for this and for more has this
+asks-lt : (a b : ℕ) (more : Bool) → (ltb a b && more) ≡ true → a < b
+asks-lt a b more e = ltb-true a b (asked (ltb a b) e)
+  where
+    asked : (test : Bool) → (test && more) ≡ true → test ≡ true
+    asked true e = refl
+    asked false e = e
+
+-- what a test is read with: it may ask for more, so that a walk which stops early is refused where it returns
+ruleset tests = (asks-lt, arith)
+
 abbrev Inv-loop : tie.InvT-loop
 Inv-loop first triangles link owner filled marks₀ queue₀ count₀ h₀ marks queue count h =
     Turn first triangles link owner filled marks₀ queue₀ marks queue count h
@@ -112,30 +126,35 @@ abbrev μ-loop : tie.MeasureT-loop
 loop-holds : tie.Need-loop-holds Inv-loop μ-loop
 loop-holds c = begun (c .before .before .before .before .pre)
 
+-- in the loop h is a half-edge
+inside : (c : tie.In-loop Inv-loop μ-loop)
+    → c .before .loop .h < 3 * c .before .before .before .before .before .before .args .triangles
+inside c = search tests
+
 mul-loop : tie.Need-mul-loop Inv-loop μ-loop
 mul-loop c = omega arith
 
 at-requires : tie.Need-at-requires Inv-loop μ-loop
-at-requires c κs = omega arith
+at-requires c κs = omega (arith, inside c)
 
 visit-requires : tie.Need-visit-requires Inv-loop μ-loop
 visit-requires c κs =
-    visitable (c .before .before .before .before .loop .inv) (c .before .before .before .loop-test .taken)
-    (c .before .before .at .ensures)
+    let in-loop = c .before .before .before in
+    visitable (in-loop .before .loop .inv) (inside in-loop) (c .before .before .at .ensures)
 
 at-requires-2 : tie.Need-at-requires-2 Inv-loop μ-loop
-at-requires-2 c κs = omega arith
+at-requires-2 c κs = omega (arith, inside (c .before .before .before .before .before .before .before .before))
 
 loop-less : tie.Need-loop-less Inv-loop μ-loop
 loop-less c =
     let in-loop = c .before .before .before .before .before .before .before .before .before in
-    omega (arith, onward (in-loop .before .loop .inv) (in-loop .loop-test .taken) (c .at2 .ensures))
+    omega (arith, inside in-loop, onward (in-loop .before .loop .inv) (inside in-loop) (c .at2 .ensures))
 
 loop-again : tie.Need-loop-again Inv-loop μ-loop
 loop-again c =
     let visited = c .before .before .before .before .before in
     let in-loop = visited .before .before .before .before in
-    turned (in-loop .before .loop .inv) (in-loop .loop-test .taken)
+    turned (in-loop .before .loop .inv) (inside in-loop)
     (visited .before .before .before .at .ensures)
     (visited .visit .ensures)
     (visited .visit .kept .1 .1 .0)
@@ -149,7 +168,7 @@ same-length-2 : tie.Need-same-length-2 Inv-loop μ-loop
 same-length-2 c = omega arith
 
 returns : tie.Need-returns Inv-loop μ-loop
-returns c = finished (c .before .loop .inv) (c .loop-test .left)
+returns c = finished (c .before .loop .inv) (omega arith)
 
 pub visit-edge-spec : {M : Type 1} → statement M
 visit-edge-spec =

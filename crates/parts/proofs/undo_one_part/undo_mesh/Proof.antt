@@ -7,10 +7,8 @@ use Rattle.theory.specs.Refusals.{meshRules, Passed}
 use Rattle.limits.proofs.Judgement.{judged-passed}
 use Rattle.parts.specs.Answers.{outputs}
 use Rattle.parts.proofs.Rooms.{Buffers, SameLengths, kept-on, judgeable}
-use Rattle.parts.proofs.UndoneMesh.{Enough, enough-lent, enough-kept, Taken}
-use Rattle.parts.proofs.UndoneMesh.{refusing, unreadable, coverable, choosable}
-use Rattle.parts.proofs.UndoneMesh.{taken, mesh-copied, vertices-copied, triangles-copied}
-use Rattle.parts.proofs.UndoneMesh.{corners-counted, accepting}
+use Rattle.parts.proofs.UndoneMesh.{Enough, enough-lent, enough-kept, refusing}
+use Rattle.parts.proofs.UndoneMesh.{coverable, choosable, writable, concluding}
 use Rattle.parts.proofs.undo_one_part.undo_mesh.Statement.{statement}
 use Rattle.parts.proofs.undo_one_part.undo_mesh.Tie as tie
 
@@ -40,29 +38,18 @@ covering c =
     .before .before .before .before
 
 -- the choice of a role
-abbrev choosing : tie.After-struct-known2 → tie.After-chosen-role
+abbrev choosing : tie.After-write-reading → tie.After-chosen-role
 choosing c =
     c .before .before .before .before .before .before .before .before .before .before .before .before .before
+    .before .before .before .before .before .before
 
--- the test of the role taken
-abbrev left2 : tie.After-copy → tie.Else2
-left2 c = c .before .before .before .before
-
--- the copy of the coarse mesh
-abbrev copying1 : tie.After-copy2 → tie.After-copy
-copying1 c = c .before .before .before .before .before
-
--- that of the vertex map
-abbrev copying2 : tie.After-copy3 → tie.After-copy2
-copying2 c = c .before .before .before .before .before
+-- the writing of the reading
+abbrev writing : tie.After-answer-role → tie.After-write-reading
+writing c = c .before .before .before .before .before .before .before
 
 -- the judgement before the covering mesh
 abbrev judged : tie.After-cover → tie.After-judge
 judged v = judging (left1 v .before)
-
--- the choice before the last answer
-abbrev chosen : tie.After-accepted-one → tie.After-chosen-role
-chosen c = choosing (left2 (copying1 (copying2 (c .before .before .before))) .before)
 
 -- ---- the work buffers
 
@@ -195,16 +182,6 @@ still-enough r =
     let s = entry (judged (covering r)) in
     enough-kept (choice-kept r) (enough-lent (lent s) (s .pre))
 
--- past the second a role is taken
-has-taken : (l : tie.Else2)
-    → let r = choosing (l .before) in
-    let s = entry (judged (covering r)) in
-    Taken (s .args .asked) (s .args .vertices) (s .args .list .now) (afterChoice r) (r .chosen-role .result .role)
-    (r .chosen-role .result .vertices) (r .chosen-role .result .triangles)
-has-taken l =
-    let r = choosing (l .before) in
-    taken (afterChoice r) (r .chosen-role .ensures) (l .if2 .left)
-
 -- ---- the answers
 
 judge-requires : tie.Need-judge-requires
@@ -260,126 +237,64 @@ chosen-role-requires c κs =
     choosable (afterCover v) (enough-kept (cover-kept v) (enough-lent (lent s) (s .pre))) (passed (left1 v))
     (v .cover .ensures)
 
-refused-one-requires-2 : tie.Need-refused-one-requires-2
-refused-one-requires-2 c κs = search needs
+write-reading-requires : tie.Need-write-reading-requires
+write-reading-requires c κs =
+    let r =
+    c .before .before .before .before .before .before .before .before .before .before .before .before .before
+    .before .before .before .before .before in
+    writable (afterChoice r) (still-enough r) (r .chosen-role .ensures)
+
+answer-role-requires : tie.Need-answer-role-requires
+answer-role-requires c κs = search needs
 
 same-length-8 : tie.Need-same-length-8
-same-length-8 c = choice-kept (choosing (c .before .before)) .mate
+same-length-8 c = search needs
 
 same-length-9 : tie.Need-same-length-9
-same-length-9 c = choice-kept (choosing (c .before .before)) .rows
+same-length-9 c = search needs
 
 same-length-10 : tie.Need-same-length-10
-same-length-10 c = choice-kept (choosing (c .before .before)) .first
+same-length-10 c = search needs
 
 same-length-11 : tie.Need-same-length-11
-same-length-11 c = choice-kept (choosing (c .before .before)) .link
+same-length-11 c = choice-kept (choosing (writing c)) .mate
 
 same-length-12 : tie.Need-same-length-12
-same-length-12 c = choice-kept (choosing (c .before .before)) .owner
+same-length-12 c = choice-kept (choosing (writing c)) .rows
 
 same-length-13 : tie.Need-same-length-13
-same-length-13 c = choice-kept (choosing (c .before .before)) .marks
+same-length-13 c = choice-kept (choosing (writing c)) .first
 
 same-length-14 : tie.Need-same-length-14
-same-length-14 c = choice-kept (choosing (c .before .before)) .coarse
+same-length-14 c = choice-kept (choosing (writing c)) .link
 
 same-length-15 : tie.Need-same-length-15
-same-length-15 c = choice-kept (choosing (c .before .before)) .numbers
+same-length-15 c = choice-kept (choosing (writing c)) .owner
 
 same-length-16 : tie.Need-same-length-16
-same-length-16 c = choice-kept (choosing (c .before .before)) .map
+same-length-16 c = choice-kept (choosing (writing c)) .marks
 
 same-length-17 : tie.Need-same-length-17
-same-length-17 c = choice-kept (choosing (c .before .before)) .faces
+same-length-17 c = choice-kept (choosing (writing c)) .coarse
 
 same-length-18 : tie.Need-same-length-18
-same-length-18 c = choice-kept (choosing (c .before .before)) .table
+same-length-18 c = choice-kept (choosing (writing c)) .numbers
+
+same-length-19 : tie.Need-same-length-19
+same-length-19 c = choice-kept (choosing (writing c)) .map
+
+same-length-20 : tie.Need-same-length-20
+same-length-20 c = choice-kept (choosing (writing c)) .faces
+
+same-length-21 : tie.Need-same-length-21
+same-length-21 c = choice-kept (choosing (writing c)) .table
 
 returns-2 : tie.Need-returns-2
 returns-2 c =
-    let r = choosing (c .before .before) in
-    unreadable (passed (left1 (covering r))) (r .chosen-role .ensures) (c .before .if2 .taken)
-    (c .refused-one2 .ensures)
-
-mul-copy : tie.Need-mul-copy
-mul-copy c =
-    let l = c .before .before .before in
-    let r = choosing (l .before) in
-    omega (arith, corners-counted (afterChoice r) (still-enough r) (has-taken l))
-
-copy-requires : tie.Need-copy-requires
-copy-requires c κs =
-    let l = c .before .before .before in
-    let r = choosing (l .before) in
-    mesh-copied (afterChoice r) (still-enough r) (has-taken l)
-
-copy-requires-2 : tie.Need-copy-requires-2
-copy-requires-2 c κs =
-    let l = left2 (c .before .before .before .before) in
-    let r = choosing (l .before) in
-    vertices-copied (afterChoice r) (still-enough r) (has-taken l)
-
-copy-requires-3 : tie.Need-copy-requires-3
-copy-requires-3 c κs =
-    let l = left2 (copying1 (c .before .before .before .before)) in
-    let r = choosing (l .before) in
-    triangles-copied (afterChoice r) (still-enough r) (has-taken l)
-
-accepted-one-requires : tie.Need-accepted-one-requires
-accepted-one-requires c κs = search needs
-
-same-length-19 : tie.Need-same-length-19
-same-length-19 c = search needs
-
-same-length-20 : tie.Need-same-length-20
-same-length-20 c = search needs
-
-same-length-21 : tie.Need-same-length-21
-same-length-21 c = search needs
-
-same-length-22 : tie.Need-same-length-22
-same-length-22 c = choice-kept (chosen c) .mate
-
-same-length-23 : tie.Need-same-length-23
-same-length-23 c = choice-kept (chosen c) .rows
-
-same-length-24 : tie.Need-same-length-24
-same-length-24 c = choice-kept (chosen c) .first
-
-same-length-25 : tie.Need-same-length-25
-same-length-25 c = choice-kept (chosen c) .link
-
-same-length-26 : tie.Need-same-length-26
-same-length-26 c = choice-kept (chosen c) .owner
-
-same-length-27 : tie.Need-same-length-27
-same-length-27 c = choice-kept (chosen c) .marks
-
-same-length-28 : tie.Need-same-length-28
-same-length-28 c = choice-kept (chosen c) .coarse
-
-same-length-29 : tie.Need-same-length-29
-same-length-29 c = choice-kept (chosen c) .numbers
-
-same-length-30 : tie.Need-same-length-30
-same-length-30 c = choice-kept (chosen c) .map
-
-same-length-31 : tie.Need-same-length-31
-same-length-31 c = choice-kept (chosen c) .faces
-
-same-length-32 : tie.Need-same-length-32
-same-length-32 c = choice-kept (chosen c) .table
-
-returns-3 : tie.Need-returns-3
-returns-3 c =
-    let third = c .before .before .before in
-    let second = copying2 third in
-    let first = copying1 second in
-    let l = left2 first in
-    let r = choosing (l .before) in
-    accepting (afterChoice r) (still-enough r) (has-taken l) (passed (left1 (covering r)))
-    (first .copy .ensures) (second .copy2 .ensures) (third .copy3 .ensures) (c .accepted-one .ensures)
+    let w = writing c in
+    let r = choosing w in
+    concluding (afterChoice r) (still-enough r) (passed (left1 (covering r))) (r .chosen-role .ensures)
+    (w .write-reading .ensures) (c .answer-role .ensures)
 
 pub undo-mesh-spec : {M : Type 1} → statement M
 undo-mesh-spec =
@@ -397,7 +312,8 @@ undo-mesh-spec =
     returns
     cover-requires
     chosen-role-requires
-    refused-one-requires-2
+    write-reading-requires
+    answer-role-requires
     same-length-8
     same-length-9
     same-length-10
@@ -409,24 +325,7 @@ undo-mesh-spec =
     same-length-16
     same-length-17
     same-length-18
-    returns-2
-    mul-copy
-    copy-requires
-    copy-requires-2
-    copy-requires-3
-    accepted-one-requires
     same-length-19
     same-length-20
     same-length-21
-    same-length-22
-    same-length-23
-    same-length-24
-    same-length-25
-    same-length-26
-    same-length-27
-    same-length-28
-    same-length-29
-    same-length-30
-    same-length-31
-    same-length-32
-    returns-3)
+    returns-2)

@@ -1,0 +1,9 @@
+-- That every row of the table holds: the tests, bottom up, and the claim.
+pub mod Equal
+pub mod RefusalTests
+pub mod ChoiceTests
+pub mod SplitTests
+pub mod UndoTests
+pub mod FrameTests
+pub mod Table
+pub mod Examples
