@@ -1,0 +1,94 @@
+//! Document 01, "Frames": reading and writing.
+
+use crate::calls::Answer;
+use crate::mesh::Limits;
+
+/// The value of four upper-case hexadecimal digits; None if they are not.
+fn four_digits(digits: &[u8]) -> Option<u16> {
+    let mut value = 0;
+    for &d in digits {
+        let digit = match d {
+            b'0'..=b'9' => d - b'0',
+            b'A'..=b'F' => d - b'A' + 10,
+            _ => return None,
+        };
+        value = 16 * value + u16::from(digit);
+    }
+    Some(value)
+}
+
+/// "Upper-case hexadecimal, no blanks": a frame of a two-digit tag and N numbers of four digits each, without its LF.
+fn frame<const N: usize>(line: &[u8], tag: &[u8; 2]) -> Option<[u16; N]> {
+    if line.len() != 2 + 4 * N || !line.starts_with(tag) {
+        return None;
+    }
+    let mut numbers = [0; N];
+    for (i, number) in numbers.iter_mut().enumerate() {
+        *number = four_digits(&line[2 + 4 * i..6 + 4 * i])?;
+    }
+    Some(numbers)
+}
+
+/// "each line ended by one LF": takes the bytes before the next LF, and leaves those behind it. None, and nothing is taken, if there
+/// is no further LF.
+fn next_line<'a>(rest: &mut &'a [u8]) -> Option<&'a [u8]> {
+    let end = rest.iter().position(|&b| b == b'\n')?;
+    let line = &rest[..end];
+    *rest = &rest[end + 1..];
+    Some(line)
+}
+
+/// "First line: 4D, V in four digits, F in four digits. Then exactly F lines: 46 and three corners of four digits each. Corners are
+/// not judged here. A frame is either read whole or refused with its line number. If lines run out, the place is the first missing
+/// one; bytes after the last frame are refused at line F + 1."
+///
+/// "Reading gives 12 for the first line, then 4, 5, then 12 for later lines." Room: "reading 3F".
+pub fn read_frames(bytes: &[u8], out: usize) -> (Answer, Vec<u16>) {
+    let mut rest = bytes;
+    let Some([v, f]) = next_line(&mut rest).and_then(|line| frame::<2>(line, b"4D")) else {
+        return (Answer::refused(12, 0), Vec::new());
+    };
+    let (vertices, triangles) = (u64::from(v), usize::from(f));
+    if triangles > Limits::TRIANGLES || vertices > Limits::VERTICES {
+        return (Answer::refused(4, 0), Vec::new());
+    }
+    if out < 3 * triangles {
+        return (Answer::refused(5, 0), Vec::new());
+    }
+    let mut list = Vec::new();
+    for k in 0..triangles {
+        let Some(corners) = next_line(&mut rest).and_then(|line| frame::<3>(line, b"46")) else {
+            return (Answer::refused(12, k as u64 + 1), Vec::new());
+        };
+        list.extend(corners);
+    }
+    if !rest.is_empty() {
+        return (Answer::refused(12, triangles as u64 + 1), Vec::new());
+    }
+    (Answer::accepted(vertices, triangles), list)
+}
+
+/// The frames of a mesh. "First line: 4D, V in four digits, F in four digits. Then exactly F lines: 46 and three corners of four
+/// digits each."
+pub(crate) fn frames(vertices: u64, list: &[u16]) -> String {
+    let mut text = format!("4D{:04X}{:04X}\n", vertices, list.len() / 3);
+    for t in list.chunks_exact(3) {
+        text += &format!("46{:04X}{:04X}{:04X}\n", t[0], t[1], t[2]);
+    }
+    text
+}
+
+/// "Writing frames gives 2, 4, 5 and allows F = 0." Room: "writing 11 + 15F bytes".
+pub fn write_frames(vertices: u64, list: &[u16], out: usize) -> (Answer, Vec<u8>) {
+    if !list.len().is_multiple_of(3) {
+        return (Answer::refused(2, 0), Vec::new());
+    }
+    let triangles = list.len() / 3;
+    if triangles > Limits::TRIANGLES || vertices > Limits::VERTICES {
+        return (Answer::refused(4, 0), Vec::new());
+    }
+    if out < 11 + 15 * triangles {
+        return (Answer::refused(5, 0), Vec::new());
+    }
+    (Answer::accepted(vertices, triangles), frames(vertices, list).into_bytes())
+}

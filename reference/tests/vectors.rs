@@ -1,0 +1,62 @@
+//! The program `vectors`: the format of README.md, "Vectors". Expectations by hand.
+
+use std::io::Write;
+use std::process::{Command, Stdio};
+
+fn run(input: &str) -> String {
+    let mut child =
+        Command::new(env!("CARGO_BIN_EXE_vectors")).stdin(Stdio::piped()).stdout(Stdio::piped()).spawn().expect("vectors starts");
+    child.stdin.take().expect("its input").write_all(input.as_bytes()).expect("it reads");
+    String::from_utf8(child.wait_with_output().expect("it ends").stdout).expect("text")
+}
+
+#[test]
+fn answers() {
+    assert_eq!(run(""), "");
+    assert_eq!(run("# a comment"), "");
+    assert_eq!(
+        run("3 4 0 5 8\n6 0"),
+        "split 3 0 0 0\none 0 3 0 0 0 0\nseveral 8 1 0 0 0 0 0 0 0 0 0 0 0\nseveral 0 3 0 0 0 0 0 0 0 0 0 0 0\n"
+    );
+    let text = "# one triangle\n1 3 3\n# its corners\n0 1 2\n3 4 4 6 7 5 0 2 0 2 1 4 0";
+    let expected = "split 0 0 6 4\n12: 3 4 5 0 3 5 1 4 3 2 5 4\n\
+                    one 4 0 0 3 1 0\n3: 0 1 2\n6: 0 1 2 3 4 5\n4: 0 1 2 3\n\
+                    several 7 0 0 3 1 1 0 0 0 0 0 0 0\n3: 0 1 2\n\
+                    several 0 0 0 3 1 0 0 0 0 0 0 0 0\n3: 0 1 2\n\
+                    one 0 8 1 0 0 0\n";
+    assert_eq!(run(text), expected);
+    assert_eq!(run("1 65535 3 0 1 2 3 1 3 2 0 1 4 4"), "split 4 0 0 0\none 4 2 0 0 0 0\n");
+    // 96 entries are written out, 97 and more are not
+    let split_twice = run("1 3 3 0 1 2 3 3 3");
+    assert!(split_twice.lines().nth(3).is_some_and(|line| line.starts_with("48: ") && line.split(' ').count() == 49));
+    assert!(split_twice.lines().nth(5).is_some_and(|line| line.starts_with("192: ") && line.split(' ').count() == 8));
+}
+
+#[test]
+fn wrong_files() {
+    for text in [
+        "7",
+        "0",
+        "4",
+        "1 3",
+        "1 3 3 0 1",
+        "2 0 1",
+        "1 3 65536",
+        "x",
+        "3 # no",
+        " # no",
+        "000003",
+        "-1",
+        "3,",
+        "1 0 49156",
+        "3\r\n",
+    ] {
+        assert!(run(text).ends_with("wrong\n"), "{text:?}");
+    }
+    assert_eq!(run("3 9 3"), "split 3 0 0 0\nwrong\n");
+    // 49,155 entries are allowed, three more are not
+    let mut text = String::from("1 3 49155");
+    text += &" 0".repeat(49_155);
+    assert_eq!(run(&(text.clone() + " 3")), "split 4 0 0 0\n");
+    assert_eq!(run(&(text + " 2 0 0 0 3")), "wrong\n");
+}
