@@ -1,0 +1,35 @@
+// The calls that are compared: the library's, or in a test of the comparison itself those of a wrong implementation.
+use flatcarol::raw::{self, Answer, OneAnswer, OneOutputs, SeveralAnswer, Work, ONE_WORK, SEVERAL_WORK, SPLIT_WORK};
+
+pub trait Calls: Sync {
+    fn split(&self, vertices: u64, list: &[u16], out: &mut [u16], work: Work<SPLIT_WORK>) -> Answer;
+    fn undo_one(&self, vertices: u64, list: &[u16], asked: u64, out: OneOutputs, work: Work<ONE_WORK>) -> OneAnswer;
+    fn undo_several(&self, vertices: u64, list: &[u16], asked: u64, out: &mut [u16], work: Work<SEVERAL_WORK>) -> SeveralAnswer;
+    fn read_frames(&self, bytes: &[u8], out: &mut [u16]) -> Answer;
+    fn write_frames(&self, vertices: u64, list: &[u16], out: &mut [u8]) -> Answer;
+}
+
+// The proved library.
+pub struct Library;
+
+impl Calls for Library {
+    fn split(&self, vertices: u64, list: &[u16], out: &mut [u16], work: Work<SPLIT_WORK>) -> Answer {
+        raw::split(vertices, list, out, work)
+    }
+
+    fn undo_one(&self, vertices: u64, list: &[u16], asked: u64, out: OneOutputs, work: Work<ONE_WORK>) -> OneAnswer {
+        raw::undo_one(vertices, list, asked, out, work)
+    }
+
+    fn undo_several(&self, vertices: u64, list: &[u16], asked: u64, out: &mut [u16], work: Work<SEVERAL_WORK>) -> SeveralAnswer {
+        raw::undo_several(vertices, list, asked, out, work)
+    }
+
+    fn read_frames(&self, bytes: &[u8], out: &mut [u16]) -> Answer {
+        raw::read_frames(bytes, out)
+    }
+
+    fn write_frames(&self, vertices: u64, list: &[u16], out: &mut [u8]) -> Answer {
+        raw::write_frames(vertices, list, out)
+    }
+}

@@ -1,0 +1,290 @@
+// One call on one input, by the calls under test on guarded buffers and by the reference, compared in everything: the answer, every
+// entry of every lent buffer, and the input.
+use std::fmt::Debug;
+
+use flatcarol::raw::{Answer, OneAnswer, OneOutputs, SeveralAnswer};
+use reference::{OneRoom, Search};
+
+use crate::calls::Calls;
+use crate::cover::{Call, Cover};
+use crate::guarded::{Buffer, Entry, Side};
+use crate::meshes::Mesh;
+use crate::random::Random;
+use crate::room::{Room, MOST};
+
+// What was different, in words, with the call and its whole input.
+pub type Checked = Result<(), String>;
+
+// Up to so many triangles the reference also searches exhaustively.
+const EXHAUSTIVE: usize = 12;
+
+// The entries of a list that a report has in full.
+const IN_FULL: usize = 600;
+
+// The most bytes that are lent.
+const MOST_BYTES: usize = 2 * MOST;
+
+const OUTPUTS: usize = 3;
+const WORK: usize = 12;
+
+pub struct Checker<'a> {
+    calls: &'a dyn Calls,
+    pub random: Random,
+    pub cover: Cover,
+    list: Buffer<u16>,
+    outputs: [Buffer<u16>; OUTPUTS],
+    work: [Buffer<u16>; WORK],
+    bytes: Buffer<u8>,
+    contents: Contents,
+    // Where in `contents.noise` the entries of a mesh call's outputs begin.
+    begin: usize,
+}
+
+// What buffers hold when they are lent, in tables, since copying and comparing a table is quick.
+struct Contents {
+    noise: Vec<u16>,
+    noise_bytes: Vec<u8>,
+    // Numbers that a call might take for its own.
+    counting: Vec<u16>,
+    greatest: Vec<u16>,
+    zeros: Vec<u16>,
+}
+
+// The outputs of a case may begin at any of so many places of the noise.
+const BEGINNINGS: usize = 1_000;
+
+impl Contents {
+    fn new() -> Contents {
+        let mut random = Random::of_case(0, 0, 0);
+        Contents {
+            noise: (0..MOST + BEGINNINGS).map(|_| random.next() as u16).collect(),
+            noise_bytes: (0..MOST_BYTES + BEGINNINGS).map(|_| random.next() as u8).collect(),
+            counting: (0..MOST).map(|number| number as u16).collect(),
+            greatest: vec![u16::MAX; MOST],
+            zeros: vec![0; MOST],
+        }
+    }
+}
+
+// What a call answers, and what it writes to each output.
+type Outcome<A> = (A, Vec<Vec<u16>>);
+
+impl<'a> Checker<'a> {
+    pub fn new(calls: &'a dyn Calls) -> Checker<'a> {
+        Checker {
+            calls,
+            random: Random::of_case(0, 0, 0),
+            cover: Cover::default(),
+            list: Buffer::new(MOST),
+            outputs: std::array::from_fn(|_| Buffer::new(MOST)),
+            work: std::array::from_fn(|_| Buffer::new(MOST)),
+            bytes: Buffer::new(MOST_BYTES),
+            contents: Contents::new(),
+            begin: 0,
+        }
+    }
+
+    pub fn split(&mut self, mesh: &Mesh, room: &Room) -> Checked {
+        self.compare_split(mesh, room).map_err(|what| report("split", mesh, room, &what))
+    }
+
+    pub fn undo_one(&mut self, mesh: &Mesh, asked: u64, room: &Room) -> Checked {
+        let call = format!("undo one, asked {asked}");
+        self.compare_undo_one(mesh, asked, room).map_err(|what| report(&call, mesh, room, &what))
+    }
+
+    pub fn undo_several(&mut self, mesh: &Mesh, asked: u64, room: &Room) -> Checked {
+        let call = format!("undo several, asked {asked}");
+        self.compare_undo_several(mesh, asked, room).map_err(|what| report(&call, mesh, room, &what))
+    }
+
+    fn compare_split(&mut self, mesh: &Mesh, room: &Room) -> Checked {
+        let (expected, entries) = reference::split(mesh.vertices, &mesh.list, room.outputs[0], &room.work);
+        self.lend(mesh, room);
+        let Checker { calls, list, outputs: [out, ..], work, .. } = self;
+        let found = calls.split(mesh.vertices, list.lent(), out.lent_mut(), slices(work));
+        self.cover.answer(Call::Split, expected.refusal, expected.place);
+        self.judge(found, (answer_of(expected), vec![entries]), mesh, room)
+    }
+
+    fn compare_undo_one(&mut self, mesh: &Mesh, asked: u64, room: &Room) -> Checked {
+        let expected = self.expected(mesh, |search| expected_one(mesh, asked, room, search))?;
+        self.lend(mesh, room);
+        let Checker { calls, list, outputs: [coarse, vertex_map, triangle_map], work, .. } = self;
+        let [coarse, vertex_map, triangle_map] = [coarse, vertex_map, triangle_map].map(Buffer::lent_mut);
+        let out = OneOutputs { mesh: coarse, vertex_map, triangle_map };
+        let found = calls.undo_one(mesh.vertices, list.lent(), asked, out, slices(work));
+        let OneAnswer { refusal, place, role, .. } = expected.0;
+        self.cover.answer(Call::UndoOne, refusal, place);
+        if refusal == 0 {
+            self.cover.reading(asked, role);
+        }
+        self.judge(found, expected, mesh, room)
+    }
+
+    fn compare_undo_several(&mut self, mesh: &Mesh, asked: u64, room: &Room) -> Checked {
+        let expected = self.expected(mesh, |search| expected_several(mesh, asked, room, search))?;
+        self.lend(mesh, room);
+        let Checker { calls, list, outputs: [out, ..], work, .. } = self;
+        let found = calls.undo_several(mesh.vertices, list.lent(), asked, out.lent_mut(), slices(work));
+        let SeveralAnswer { refusal, place, levels, roles, .. } = expected.0;
+        self.cover.answer(Call::UndoSeveral, refusal, place);
+        if refusal == 0 {
+            self.cover.levels(levels, &roles);
+        }
+        self.judge(found, expected, mesh, room)
+    }
+
+    pub fn read_frames(&mut self, bytes: &[u8], length: usize) -> Checked {
+        let (expected, entries) = reference::read_frames(bytes, length);
+        let Checker { calls, random, bytes: input, outputs: [out, ..], contents, .. } = self;
+        let before = &contents.noise[random.below(BEGINNINGS)..][..length];
+        input.lend(bytes, side(random));
+        out.lend(before, side(random));
+        let found = calls.read_frames(input.lent(), out.lent_mut());
+        self.cover.answer(Call::ReadFrames, expected.refusal, expected.place);
+        same_answer(found, answer_of(expected))
+            .and_then(|()| as_written("the output", out, &entries, before))
+            .and_then(|()| as_it_was("the input", input, bytes))
+            .map_err(|what| format!("read frames, {length} entries lent, of {}:\n{what}", shown_bytes(bytes)))
+    }
+
+    pub fn write_frames(&mut self, mesh: &Mesh, length: usize) -> Checked {
+        let (expected, bytes) = reference::write_frames(mesh.vertices, &mesh.list, length);
+        let Checker { calls, random, list, bytes: out, contents, .. } = self;
+        let before = &contents.noise_bytes[random.below(BEGINNINGS)..][..length];
+        list.lend(&mesh.list, side(random));
+        out.lend(before, side(random));
+        let found = calls.write_frames(mesh.vertices, list.lent(), out.lent_mut());
+        self.cover.answer(Call::WriteFrames, expected.refusal, expected.place);
+        same_answer(found, answer_of(expected))
+            .and_then(|()| as_written("the output", out, &bytes, before))
+            .and_then(|()| as_it_was("the input", list, &mesh.list))
+            .map_err(|what| format!("write frames, {length} bytes lent, of {}:\n{what}", shown(mesh)))
+    }
+
+    // The reference's result. Of a small mesh it has two searches, which are compared with each other first.
+    fn expected<A: PartialEq + Debug>(&mut self, mesh: &Mesh, result: impl Fn(Search) -> Outcome<A>) -> Result<Outcome<A>, String> {
+        let spreading = result(Search::Spreading);
+        if mesh.triangles() > EXHAUSTIVE {
+            return Ok(spreading);
+        }
+        self.cover.both_searches();
+        let exhaustive = result(Search::Exhaustive);
+        if exhaustive != spreading {
+            return Err(format!("the reference's searches differ: exhaustive {exhaustive:?}, spreading {spreading:?}"));
+        }
+        Ok(exhaustive)
+    }
+
+    // Lends the list and every buffer, each flush against one of its guards: outputs with noise, and work buffers dirty.
+    fn lend(&mut self, mesh: &Mesh, room: &Room) {
+        let Checker { random, list, outputs, work, contents, begin, .. } = self;
+        *begin = random.below(BEGINNINGS);
+        list.lend(&mesh.list, side(random));
+        for (buffer, &length) in outputs.iter_mut().zip(&room.outputs) {
+            buffer.lend(&contents.noise[*begin..][..length], side(random));
+        }
+        let dirt = random.pick(&[&contents.noise, &contents.noise, &contents.counting, &contents.greatest]);
+        for (buffer, &length) in work.iter_mut().zip(&room.work) {
+            buffer.lend(&dirt[..length], side(random));
+        }
+    }
+
+    fn judge<A: PartialEq + Debug>(&self, found: A, (answer, written): Outcome<A>, mesh: &Mesh, room: &Room) -> Checked {
+        same_answer(found, answer)?;
+        for (number, entries) in written.iter().enumerate() {
+            let before = &self.contents.noise[self.begin..][..room.outputs[number]];
+            as_written(&format!("output {number}"), &self.outputs[number], entries, before)?;
+        }
+        for (number, &length) in room.work.iter().enumerate() {
+            as_written(&format!("work buffer {number}"), &self.work[number], &[], &self.contents.zeros[..length])?;
+        }
+        as_it_was("the list", &self.list, &mesh.list)
+    }
+}
+
+// Mostly the guard behind: a call that goes too far does so at the end.
+fn side(random: &mut Random) -> Side {
+    if random.one_in(4) {
+        Side::Before
+    } else {
+        Side::Behind
+    }
+}
+
+fn slices<const N: usize>(buffers: &mut [Buffer<u16>; WORK]) -> [&mut [u16]; N] {
+    let mut buffers = buffers.iter_mut();
+    std::array::from_fn(|_| buffers.next().map(Buffer::lent_mut).unwrap_or_default())
+}
+
+fn answer_of(answer: reference::Answer) -> Answer {
+    let reference::Answer { refusal, place, vertices, triangles } = answer;
+    Answer { refusal, place, vertices, triangles }
+}
+
+fn expected_one(mesh: &Mesh, asked: u64, room: &Room, search: Search) -> Outcome<OneAnswer> {
+    let one_room = OneRoom { mesh: room.outputs[0], vertex_map: room.outputs[1], triangle_map: room.outputs[2] };
+    let one = reference::undo_one(mesh.vertices, &mesh.list, asked, one_room, &room.work, search);
+    let Answer { refusal, place, vertices, triangles } = answer_of(one.answer);
+    (OneAnswer { refusal, place, vertices, triangles, role: one.role }, vec![one.mesh, one.vertex_map, one.triangle_map])
+}
+
+fn expected_several(mesh: &Mesh, asked: u64, room: &Room, search: Search) -> Outcome<SeveralAnswer> {
+    let several = reference::undo_several(mesh.vertices, &mesh.list, asked, room.outputs[0], &room.work, search);
+    let Answer { refusal, place, vertices, triangles } = answer_of(several.answer);
+    let answer = SeveralAnswer { refusal, place, vertices, triangles, levels: several.levels, roles: several.roles };
+    (answer, vec![several.mesh])
+}
+
+fn same_answer<A: PartialEq + Debug>(found: A, expected: A) -> Checked {
+    if found == expected {
+        Ok(())
+    } else {
+        Err(format!("answered {found:?}, expected {expected:?}"))
+    }
+}
+
+// A buffer holds what was written, and behind it what it held before.
+fn as_written<T: Entry>(name: &str, buffer: &Buffer<T>, written: &[T], before: &[T]) -> Checked {
+    let lent = buffer.lent();
+    if lent.len() < written.len() {
+        return Err(format!("{name} has room for {} entries, and {} are expected", lent.len(), written.len()));
+    }
+    let behind = written.len();
+    if lent[..behind] != *written || lent[behind..] != before[behind..] {
+        let expected = written.iter().chain(&before[behind..]);
+        let (place, (found, expected)) = lent.iter().zip(expected).enumerate().find(|(_, (one, other))| one != other).unwrap();
+        return Err(format!("{name}, entry {place}, of which {behind} are to be written, is {found:?}, expected {expected:?}"));
+    }
+    if !buffer.margin_is_whole() {
+        return Err(format!("{name}: entries beside it were written"));
+    }
+    Ok(())
+}
+
+fn as_it_was<T: Entry>(name: &str, buffer: &Buffer<T>, given: &[T]) -> Checked {
+    as_written(name, buffer, &[], given).map_err(|what| format!("{what}: the call wrote to what it only reads"))
+}
+
+fn report(call: &str, mesh: &Mesh, room: &Room, what: &str) -> String {
+    let Room { outputs, work } = room;
+    format!("{call}, outputs of {outputs:?} and work buffers of {work:?} entries lent, of {}:\n{what}", shown(mesh))
+}
+
+fn shown(mesh: &Mesh) -> String {
+    let Mesh { vertices, list } = mesh;
+    if list.len() <= IN_FULL {
+        format!("{vertices} vertices, {list:?}")
+    } else {
+        format!("{vertices} vertices, {} entries (too many to show; the case can be made again)", list.len())
+    }
+}
+
+fn shown_bytes(bytes: &[u8]) -> String {
+    if bytes.len() <= 4 * IN_FULL {
+        format!("\"{}\"", bytes.escape_ascii())
+    } else {
+        format!("{} bytes (too many to show; the case can be made again)", bytes.len())
+    }
+}

@@ -1,0 +1,161 @@
+// What the cases covered, counted, so that a generator that has quietly become empty is seen.
+use std::collections::BTreeMap;
+use std::fmt::{self, Display, Formatter};
+
+#[derive(Clone, Copy, Debug, PartialEq, Eq)]
+pub enum Call {
+    Split,
+    UndoOne,
+    UndoSeveral,
+    ReadFrames,
+    WriteFrames,
+    Program,
+}
+
+const CALLS: [Call; 6] = [Call::Split, Call::UndoOne, Call::UndoSeveral, Call::ReadFrames, Call::WriteFrames, Call::Program];
+
+// The refusals' numbers, and 0 for acceptance.
+const NUMBERS: usize = 14;
+
+// The refusals that name a place.
+const PLACED: [usize; 6] = [6, 7, 8, 9, 10, 12];
+
+impl Call {
+    pub fn name(self) -> &'static str {
+        match self {
+            Call::Split => "split",
+            Call::UndoOne => "undo one",
+            Call::UndoSeveral => "undo several",
+            Call::ReadFrames => "read frames",
+            Call::WriteFrames => "write frames",
+            Call::Program => "the program",
+        }
+    }
+
+    // The numbers that document 01 has the call give.
+    fn numbers(self) -> &'static [usize] {
+        match self {
+            Call::Split => &[0, 2, 3, 4, 5, 6, 7, 8, 9, 10],
+            Call::UndoOne => &[0, 1, 2, 3, 4, 5, 6, 7, 8, 9, 10, 11],
+            Call::UndoSeveral => &[0, 1, 2, 3, 4, 5, 6, 7, 8, 9, 10],
+            Call::ReadFrames => &[0, 4, 5, 12],
+            Call::WriteFrames => &[0, 2, 4, 5],
+            Call::Program => &[0, 3, 4, 5, 6, 7, 8, 9, 10, 11, 12, 13],
+        }
+    }
+}
+
+#[derive(Default)]
+pub struct Cover {
+    answers: [[u64; NUMBERS]; CALLS.len()],
+    // Of these, the refusals whose place is not 0.
+    later_places: [[u64; NUMBERS]; CALLS.len()],
+    // Readings that undo one gave, by their role.
+    roles_asked: [u64; 4],
+    least_roles: [u64; 4],
+    // What undo several reached, and the roles that it took.
+    levels: [u64; 8],
+    roles_of_levels: [u64; 4],
+    // Undos for which the reference's two searches were compared with each other.
+    both_searches: u64,
+    // By set and kind.
+    cases: BTreeMap<(&'static str, &'static str), u64>,
+}
+
+impl Cover {
+    pub fn case(&mut self, set: &'static str, kind: &'static str) {
+        *self.cases.entry((set, kind)).or_default() += 1;
+    }
+
+    pub fn answer(&mut self, call: Call, refusal: u64, place: u64) {
+        self.answers[call as usize][refusal as usize] += 1;
+        self.later_places[call as usize][refusal as usize] += (place > 0) as u64;
+    }
+
+    pub fn reading(&mut self, asked: u64, role: u64) {
+        let roles = if asked == role { &mut self.roles_asked } else { &mut self.least_roles };
+        roles[role as usize] += 1;
+    }
+
+    pub fn levels(&mut self, levels: u64, roles: &[u8; 7]) {
+        self.levels[levels as usize] += 1;
+        for &role in &roles[..levels as usize] {
+            self.roles_of_levels[role as usize] += 1;
+        }
+    }
+
+    pub fn both_searches(&mut self) {
+        self.both_searches += 1;
+    }
+
+    pub fn add(&mut self, other: Cover) {
+        for (call, _) in CALLS.iter().enumerate() {
+            add_each(&mut self.answers[call], &other.answers[call]);
+            add_each(&mut self.later_places[call], &other.later_places[call]);
+        }
+        add_each(&mut self.roles_asked, &other.roles_asked);
+        add_each(&mut self.least_roles, &other.least_roles);
+        add_each(&mut self.levels, &other.levels);
+        add_each(&mut self.roles_of_levels, &other.roles_of_levels);
+        self.both_searches += other.both_searches;
+        for (kind, count) in other.cases {
+            *self.cases.entry(kind).or_default() += count;
+        }
+    }
+
+    // What was expected of these kinds of cases, and never occurred.
+    pub fn missing(&self, kinds: &[(&'static str, &'static str)], with_program: bool) -> Vec<String> {
+        let mut missing = Vec::new();
+        let mut expect = |count: u64, what: String| {
+            if count == 0 {
+                missing.push(what);
+            }
+        };
+        for call in CALLS.into_iter().filter(|&call| with_program || call != Call::Program) {
+            for &number in call.numbers() {
+                expect(self.answers[call as usize][number], format!("{}: {number}", call.name()));
+                if PLACED.contains(&number) {
+                    expect(self.later_places[call as usize][number], format!("{}: {number} at a place behind 0", call.name()));
+                }
+            }
+        }
+        for role in 0..4 {
+            expect(self.roles_asked[role], format!("a reading in role {role}, asked for it"));
+            expect(self.least_roles[role], format!("a reading in role {role}, asked for the least"));
+            expect(self.roles_of_levels[role], format!("a level in role {role}"));
+        }
+        for levels in 0..8 {
+            expect(self.levels[levels], format!("{levels} levels"));
+        }
+        expect(self.both_searches, "an undo by both searches".into());
+        for kind in kinds {
+            expect(self.cases.get(kind).copied().unwrap_or(0), format!("{}: {}", kind.0, kind.1));
+        }
+        missing
+    }
+}
+
+fn add_each(counts: &mut [u64], others: &[u64]) {
+    for (count, other) in counts.iter_mut().zip(others) {
+        *count += other;
+    }
+}
+
+impl Display for Cover {
+    fn fmt(&self, f: &mut Formatter) -> fmt::Result {
+        writeln!(f, "cases:")?;
+        for ((set, kind), count) in &self.cases {
+            writeln!(f, "  {count:>9}  {set}: {kind}")?;
+        }
+        writeln!(f, "answers:")?;
+        for call in CALLS {
+            let counts = &self.answers[call as usize];
+            let refused: Vec<String> =
+                (1..NUMBERS).filter(|&number| counts[number] > 0).map(|number| format!("{number}: {}", counts[number])).collect();
+            writeln!(f, "  {:<13} {:>9} accepted; refused {}", call.name(), counts[0], refused.join(", "))?;
+        }
+        writeln!(f, "readings in roles 0 to 3: asked for {:?}, the least {:?}", self.roles_asked, self.least_roles)?;
+        writeln!(f, "undone 0 to 7 levels: {:?}, in roles 0 to 3: {:?}", self.levels, self.roles_of_levels)?;
+        write!(f, "undos by both of the reference's searches: {}", self.both_searches)
+    }
+}

@@ -1,0 +1,159 @@
+// The cases of crates/vectors, as text: numbers, which are commands with their arguments.
+use std::fmt::Write;
+
+use crate::document::{torus, Named, STARRED};
+use crate::kinds::KINDS;
+use crate::meshes::{self, Mesh};
+use crate::random::Random;
+
+const SEED: u64 = 1;
+const GENERATED: usize = 330;
+
+// What is asked too much of undo one and of undo several, among others.
+const TOO_MUCH: [u64; 6] = [8, 9, 255, 256, 32_768, 65_535];
+
+#[derive(Default)]
+struct Text(String);
+
+impl Text {
+    fn comment(&mut self, what: &str) {
+        self.line(&format!("# {what}"));
+    }
+
+    fn line(&mut self, words: &str) {
+        self.0 += words;
+        self.0.push('\n');
+    }
+
+    // The present mesh.
+    fn mesh(&mut self, mesh: &Mesh) {
+        let mut words = format!("1 {} {}", mesh.vertices, mesh.list.len());
+        for entry in &mesh.list {
+            let _ = write!(words, " {entry}");
+        }
+        self.line(&words);
+    }
+
+    fn triangle(&mut self, [a, b, c]: [u16; 3]) {
+        self.line(&format!("2 {a} {b} {c}"));
+    }
+
+    // The present mesh becomes its splitting, and that one's, and so on.
+    fn split(&mut self, times: usize) {
+        self.line(&vec!["3"; times].join(" "));
+    }
+
+    fn undo_one(&mut self, asked: impl IntoIterator<Item = u64>) {
+        self.asked("4", asked);
+    }
+
+    fn undo_several(&mut self, asked: impl IntoIterator<Item = u64>) {
+        self.asked("5", asked);
+    }
+
+    // The present mesh becomes the result.
+    fn take_several(&mut self, asked: impl IntoIterator<Item = u64>) {
+        self.asked("6", asked);
+    }
+
+    fn asked(&mut self, command: &str, asked: impl IntoIterator<Item = u64>) {
+        let words: Vec<String> = asked.into_iter().map(|asked| format!("{command} {asked}")).collect();
+        self.line(&words.join(" "));
+    }
+}
+
+pub fn text() -> String {
+    let mut text = Text::default();
+    text.comment("Cases for the library and for the independent implementation. Written by 'compare --vectors'.");
+    unstarred(&mut text);
+    starred(&mut text);
+    refusals(&mut text);
+    generated(&mut text);
+    text.0
+}
+
+fn unstarred(text: &mut Text) {
+    text.comment("---- document 01's meshes without a star");
+    let shapes = [("one triangle", meshes::one_triangle()), ("a tetrahedron", meshes::tetrahedron())];
+    for (name, mesh) in &shapes {
+        text.comment(&format!("{name}: 11; split: accepted"));
+        text.mesh(mesh);
+        text.undo_one(0..=4);
+        text.split(1);
+        text.undo_one(0..=4);
+        text.undo_several(0..=7);
+    }
+    text.comment("an octahedron: 11");
+    text.mesh(&meshes::octahedron());
+    text.undo_one(0..=4);
+    text.comment("a regular 6 by 6 torus of 72 triangles: all four roles");
+    text.mesh(&torus());
+    text.undo_one(0..=4);
+    text.undo_several(0..=7);
+    text.comment("seven splits of one triangle: 16,384 triangles; undo of 7 gives it back, asked 8 gives 1");
+    text.mesh(&meshes::one_triangle());
+    text.split(7);
+    text.undo_several([7, 6, 1, 0, 8]);
+    text.undo_one([4, 1]);
+    text.comment("one triangle more: 16,385, and 4; asked too much is 1 all the same");
+    text.triangle([0, 1, 2]);
+    text.undo_several([7, 8]);
+    text.undo_one([4, 5]);
+    text.split(1);
+    text.comment("six splits are split once more; with one triangle more they are 4,097, and 4 for splitting alone");
+    text.mesh(&meshes::one_triangle());
+    text.split(6);
+    text.triangle([0, 1, 2]);
+    text.split(1);
+    text.undo_one([4]);
+    text.undo_several([7]);
+}
+
+fn starred(text: &mut Text) {
+    text.comment("---- document 01's meshes with a star");
+    for Named { name, mesh } in &STARRED {
+        text.comment(name);
+        text.mesh(&mesh());
+        text.undo_one(0..=4);
+        text.undo_several([0, 7]);
+        text.split(1);
+    }
+}
+
+// Judged from numbers alone, at their boundaries.
+fn refusals(text: &mut Text) {
+    text.comment("---- refusals 1 to 4");
+    for length in 0..=5 {
+        text.mesh(&Mesh { vertices: 3, list: [0, 1, 2, 2, 1, 0][..length].to_vec() });
+        text.undo_one([4, 5]);
+        text.undo_several([7, 8]);
+        text.split(1);
+    }
+    for vertices in [0, 1, 32_767, 32_768, 65_535] {
+        text.mesh(&Mesh { vertices, ..meshes::one_triangle() });
+        text.undo_one([0, 4, 5]);
+        text.undo_several([0, 7, 8]);
+        text.split(1);
+    }
+}
+
+fn generated(text: &mut Text) {
+    text.comment("---- generated");
+    for number in 0..GENERATED {
+        let mut random = Random::of_case(SEED, 0, number);
+        let kind = &KINDS[number % KINDS.len()];
+        let most = random.pick(&[4, 8, 8, 12, 16, 24, 32, 48]);
+        text.comment(kind.name);
+        text.mesh(&kind.of_size(&mut random, most));
+        text.undo_one((0..=4).chain(random.one_in(10).then(|| random.pick(&TOO_MUCH))));
+        text.undo_several([0, 1, 2, 7].into_iter().chain(random.one_in(10).then(|| random.pick(&TOO_MUCH))));
+        match random.below(3) {
+            0 => text.split(1),
+            1 => text.take_several([1, 1, 7]),
+            _ => {
+                text.split(1);
+                text.take_several([1, 7]);
+            }
+        }
+    }
+}

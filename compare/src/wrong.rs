@@ -1,0 +1,387 @@
+// A small implementation of the calls over hash maps, with a fault that can be chosen: what the comparison must catch. Without a
+// fault it must pass.
+use std::collections::{BTreeMap, BTreeSet, HashMap, HashSet};
+
+use flatcarol::raw::{Answer, OneAnswer, OneOutputs, SeveralAnswer, Work, ONE_WORK, SEVERAL_WORK, SPLIT_WORK};
+
+use crate::calls::{Calls, Library};
+use crate::meshes::{splitting, Mesh};
+
+macro_rules! faults {
+    ($($fault:ident,)*) => {
+        #[derive(Clone, Copy, Debug, PartialEq, Eq)]
+        pub enum Fault {
+            $($fault,)*
+        }
+
+        pub const FAULTS: &[Fault] = &[$(Fault::$fault),*];
+    };
+}
+
+faults! {
+    None,
+    // Errors that document 01 names, and their like.
+    CountingOnly,
+    RegularEdgesOnly,
+    RoleZeroOnly,
+    LabelsWithoutLastCheck,
+    MapsTooEarly,
+    WorkLeftDirty,
+    GreatestRole,
+    StopsOneLevelEarly,
+    // In answers.
+    PlaceOffByOne,
+    RolesBehindTheLast,
+    CornersRotated,
+    // In judging.
+    WindingCounts,
+    JudgesOverRegularEdges,
+    OneTriangleTooMany,
+    VerticesIn32Bits,
+    AskedIn8Bits,
+    OneWorkBufferNotJudged,
+    // In buffers.
+    EntryTooMany,
+    ReadsPastTheList,
+    // In frames.
+    LowerCaseRead,
+    LastLineWithoutEnd,
+}
+
+pub struct Wrong(pub Fault);
+
+// The triangles on each edge, whose lesser end stands first.
+type Edges = HashMap<(u16, u16), Vec<usize>>;
+
+// A refusal's number and place.
+type Refusal = (u64, u64);
+
+// What an undo makes of a role, and whether it has been found to be a reading.
+struct Undone {
+    coarse: Mesh,
+    vertex_map: Vec<u16>,
+    triangle_map: Vec<u16>,
+    role: u64,
+    is_reading: bool,
+}
+
+impl Wrong {
+    fn has(&self, fault: Fault) -> bool {
+        self.0 == fault
+    }
+
+    fn asked(&self, asked: u64) -> u64 {
+        if self.has(Fault::AskedIn8Bits) {
+            asked as u8 as u64
+        } else {
+            asked
+        }
+    }
+
+    // Refusals 2 to 10. `lent` has each buffer's length beside what is needed of it.
+    fn refusal(&self, vertices: u64, list: &[u16], most: usize, lent: &[(usize, u64)]) -> Option<Refusal> {
+        let vertices = if self.has(Fault::VerticesIn32Bits) { vertices as u32 as u64 } else { vertices };
+        let most = most + self.has(Fault::OneTriangleTooMany) as usize;
+        let by_size = [
+            (2, !list.len().is_multiple_of(3)),
+            (3, list.is_empty()),
+            (4, list.len() / 3 > most || vertices > 32_767),
+            (5, lent.iter().any(|&(length, needed)| (length as u64) < needed)),
+        ];
+        let refused = by_size.into_iter().find(|&(_, refused)| refused).map(|(number, _)| (number, 0));
+        refused.or_else(|| self.improper(vertices as usize, &triangles_of(list)))
+    }
+
+    // Refusals 6 to 10.
+    fn improper(&self, vertices: usize, triangles: &[[u16; 3]]) -> Option<Refusal> {
+        let at = |number: u64, place: Option<usize>| place.map(|place| (number, place as u64));
+        let mut seen = HashSet::new();
+        at(6, triangles.iter().position(|triangle| triangle.iter().any(|&corner| corner as usize >= vertices)))
+            .or_else(|| at(7, triangles.iter().position(|[a, b, c]| a == b || b == c || c == a)))
+            .or_else(|| at(8, triangles.iter().position(|&triangle| !seen.insert(self.same_as(triangle)))))
+            .or_else(|| {
+                let used: HashSet<u16> = triangles.iter().flatten().copied().collect();
+                at(9, (0..vertices).find(|&vertex| !used.contains(&(vertex as u16))))
+            })
+            .or_else(|| at(10, self.apart(triangles)))
+    }
+
+    // The same for triangles that are the same.
+    fn same_as(&self, mut triangle: [u16; 3]) -> [u16; 3] {
+        if self.has(Fault::WindingCounts) {
+            let least = (0..3).min_by_key(|&corner| triangle[corner]).unwrap_or(0);
+            triangle.rotate_left(least);
+        } else {
+            triangle.sort();
+        }
+        triangle
+    }
+
+    // The least triangle that is not reached from triangle 0.
+    fn apart(&self, triangles: &[[u16; 3]]) -> Option<usize> {
+        let edges = edges_of(triangles);
+        let mut reached = vec![false; triangles.len()];
+        let mut open = vec![0];
+        while let Some(triangle) = open.pop() {
+            if !std::mem::replace(&mut reached[triangle], true) {
+                let [a, b, c] = triangles[triangle];
+                let on_edges = [(a, b), (b, c), (c, a)].map(|(v, w)| &edges[&edge(v, w)]);
+                let steps = on_edges.into_iter().filter(|on| on.len() == 2 || !self.has(Fault::JudgesOverRegularEdges));
+                open.extend(steps.flatten());
+            }
+        }
+        let apart = reached.iter().position(|&reached| !reached);
+        apart.map(|place| place + self.has(Fault::PlaceOffByOne) as usize)
+    }
+
+    // In the role asked, or in the first of all. The maps of one that is no reading go to `early`.
+    fn undone(&self, mesh: &Mesh, asked: u64, mut early: impl FnMut(&Undone)) -> Option<Undone> {
+        let mut roles: Vec<u64> = if asked < 4 { vec![asked] } else { (0..4).collect() };
+        if asked == 4 && self.has(Fault::RoleZeroOnly) {
+            roles.truncate(1);
+        }
+        if self.has(Fault::GreatestRole) {
+            roles.reverse();
+        }
+        let made = roles.into_iter().filter_map(|role| self.in_role(mesh, role));
+        made.inspect(|undone| early(undone)).find(|undone| undone.is_reading)
+    }
+
+    fn in_role(&self, mesh: &Mesh, role: u64) -> Option<Undone> {
+        let triangles = triangles_of(&mesh.list);
+        let tiles = self.tiles(&triangles, role)?;
+        if 4 * tiles.len() != triangles.len() {
+            return None;
+        }
+
+        let kept: BTreeSet<u16> = tiles.values().flatten().map(|&(_, kept)| kept).collect();
+        let numbers: HashMap<u16, u16> = kept.iter().copied().zip(0..).collect();
+        let corners = tiles.values().flatten().map(|(_, kept)| numbers[kept]);
+        let coarse = Mesh { vertices: kept.len() as u64, list: corners.collect() };
+        let fine = splitting(&coarse);
+
+        let mut vertex_map = vec![u16::MAX; mesh.vertices as usize];
+        let mut triangle_map = vec![u16::MAX; triangles.len()];
+        for (&vertex, &number) in &numbers {
+            vertex_map[vertex as usize] = number;
+        }
+        for (number, (&centre, tile)) in tiles.iter().enumerate() {
+            let between = self.turned(triangles[centre]).into_iter().zip(fine.triangle(4 * number));
+            between.for_each(|(vertex, number)| vertex_map[vertex as usize] = number);
+            let fours = [centre, tile[0].0, tile[1].0, tile[2].0].into_iter().zip(4 * number as u16..);
+            fours.for_each(|(triangle, number)| triangle_map[triangle] = number);
+        }
+        let mut undone = Undone { coarse, vertex_map, triangle_map, role, is_reading: false };
+        undone.is_reading = self.is_reading(&undone, &fine, &triangles, &kept);
+        Some(undone)
+    }
+
+    // From the first centre, over tile edges: each centre's three corner triangles with their kept vertices, in the order in which
+    // the coarse triangle has them.
+    fn tiles(&self, triangles: &[[u16; 3]], role: u64) -> Option<BTreeMap<usize, [(usize, u16); 3]>> {
+        let edges = edges_of(triangles);
+        // The other triangle on a regular edge, and its third corner.
+        let across = |triangle: usize, v: u16, w: u16| {
+            let on = &edges[&edge(v, w)];
+            let other = on.iter().copied().find(|&other| other != triangle)?;
+            (on.len() == 2).then_some((other, third(triangles[other], v, w)))
+        };
+        let first = match role {
+            0 => 0,
+            _ => {
+                let mut corners = triangles[0];
+                corners.rotate_left(role as usize);
+                across(0, corners[0], corners[1])?.0
+            }
+        };
+        let mut tiles = BTreeMap::new();
+        let mut open = vec![first];
+        while let Some(centre) = open.pop() {
+            if tiles.contains_key(&centre) {
+                continue;
+            }
+            let [a, b, c] = triangles[centre];
+            let tile = [across(centre, c, a)?, across(centre, a, b)?, across(centre, b, c)?];
+            if tile[0].1 == tile[1].1 || tile[1].1 == tile[2].1 || tile[2].1 == tile[0].1 {
+                return None;
+            }
+            tiles.insert(centre, self.turned(tile));
+            for ((corner, kept), between) in [(0, c), (0, a), (1, a), (1, b), (2, b), (2, c)].map(|(side, v)| (tile[side], v)) {
+                let on = &edges[&edge(kept, between)];
+                if on.len() > 2 && self.has(Fault::RegularEdgesOnly) {
+                    continue;
+                }
+                for &next in on.iter().filter(|&&next| next != corner) {
+                    open.push(across(next, between, third(triangles[next], kept, between))?.0);
+                }
+            }
+        }
+        Some(tiles)
+    }
+
+    // A centre's corners, or what stands across from its edges, in the coarse triangle's order.
+    fn turned<T>(&self, mut of_centre: [T; 3]) -> [T; 3] {
+        of_centre.rotate_left(self.has(Fault::CornersRotated) as usize);
+        of_centre
+    }
+
+    // The last check: the maps take each number once, and each triangle is that of the splitting.
+    fn is_reading(&self, undone: &Undone, fine: &Mesh, triangles: &[[u16; 3]], kept: &BTreeSet<u16>) -> bool {
+        let Undone { coarse, vertex_map, triangle_map, .. } = undone;
+        if self.has(Fault::CountingOnly) {
+            return fine.vertices == vertex_map.len() as u64 && once_each(triangle_map);
+        }
+        if self.has(Fault::LabelsWithoutLastCheck) {
+            let labelled = |triangle: &[u16; 3]| triangle.iter().filter(|&corner| kept.contains(corner)).count() <= 1;
+            return triangles.iter().all(labelled) && once_each(triangle_map);
+        }
+        let same = |(triangle, &number): (&[u16; 3], &u16)| {
+            let matched = triangle.map(|corner| vertex_map[corner as usize]);
+            sorted(matched) == sorted(fine.triangle(number as usize))
+        };
+        fine.vertices == vertex_map.len() as u64
+            && once_each(vertex_map)
+            && once_each(triangle_map)
+            && triangles.iter().zip(triangle_map).all(same)
+            && self.improper(coarse.vertices as usize, &triangles_of(&coarse.list)).is_none()
+    }
+
+    fn write<T: Copy + Default>(&self, out: &mut [T], entries: &[T]) {
+        out[..entries.len()].copy_from_slice(entries);
+        if self.has(Fault::EntryTooMany) && out.len() > entries.len() {
+            out[entries.len()] = T::default();
+        }
+    }
+
+    // What happens to every call's list and work buffers, whatever it answers.
+    fn touch<const N: usize>(&self, list: &[u16], work: Work<N>) {
+        if self.has(Fault::ReadsPastTheList) {
+            // SAFETY: none. It is the fault, and must end the process.
+            unsafe { list.as_ptr_range().end.read_volatile() };
+        }
+        for buffer in work {
+            buffer.fill(0);
+            if self.has(Fault::WorkLeftDirty) && N == SEVERAL_WORK {
+                buffer.iter_mut().last().into_iter().for_each(|entry| *entry = 1);
+            }
+        }
+    }
+
+    fn work_room<const N: usize>(&self, vertices: u64, list: &[u16], work: &Work<N>) -> Vec<(usize, u64)> {
+        let needed = vertices.saturating_add(list.len() as u64 / 3 * 3);
+        let judged = if self.has(Fault::OneWorkBufferNotJudged) { N - 1 } else { N };
+        work[..judged].iter().map(|buffer| (buffer.len(), needed)).collect()
+    }
+}
+
+impl Calls for Wrong {
+    fn split(&self, vertices: u64, list: &[u16], out: &mut [u16], work: Work<SPLIT_WORK>) -> Answer {
+        let mut lent = self.work_room(vertices, list, &work);
+        lent.push((out.len(), 12 * (list.len() as u64 / 3)));
+        let refusal = self.refusal(vertices, list, 4_096, &lent);
+        self.touch(list, work);
+        if let Some((refusal, place)) = refusal {
+            return Answer { refusal, place, ..Answer::default() };
+        }
+        let fine = splitting(&Mesh::new(vertices, list));
+        self.write(out, &fine.list);
+        Answer { refusal: 0, place: 0, vertices: fine.vertices, triangles: fine.triangles() as u64 }
+    }
+
+    fn undo_one(&self, vertices: u64, list: &[u16], asked: u64, out: OneOutputs, work: Work<ONE_WORK>) -> OneAnswer {
+        let triangles = list.len() as u64 / 3;
+        let mut lent = self.work_room(vertices, list, &work);
+        lent.extend([(out.mesh.len(), 3 * (triangles / 4)), (out.vertex_map.len(), vertices), (out.triangle_map.len(), triangles)]);
+        let asked = self.asked(asked);
+        let mesh = Mesh::new(vertices, list);
+        let refusal = if asked > 4 { Some((1, 0)) } else { self.refusal(vertices, list, 16_384, &lent) };
+        self.touch(list, work);
+        if let Some((refusal, place)) = refusal {
+            return OneAnswer { refusal, place, ..OneAnswer::default() };
+        }
+        let early = |undone: &Undone| {
+            if self.has(Fault::MapsTooEarly) {
+                self.write(out.vertex_map, &undone.vertex_map);
+            }
+        };
+        let Some(Undone { coarse, vertex_map, triangle_map, role, .. }) = self.undone(&mesh, asked, early) else {
+            return OneAnswer { refusal: 11, ..OneAnswer::default() };
+        };
+        self.write(out.mesh, &coarse.list);
+        self.write(out.vertex_map, &vertex_map);
+        self.write(out.triangle_map, &triangle_map);
+        OneAnswer { refusal: 0, place: 0, vertices: coarse.vertices, triangles: coarse.triangles() as u64, role }
+    }
+
+    fn undo_several(&self, vertices: u64, list: &[u16], asked: u64, out: &mut [u16], work: Work<SEVERAL_WORK>) -> SeveralAnswer {
+        let mut lent = self.work_room(vertices, list, &work);
+        lent.push((out.len(), list.len() as u64 / 3 * 3));
+        let asked = self.asked(asked);
+        let mut mesh = Mesh::new(vertices, list);
+        let refusal = if asked > 7 { Some((1, 0)) } else { self.refusal(vertices, list, 16_384, &lent) };
+        self.touch(list, work);
+        if let Some((refusal, place)) = refusal {
+            return SeveralAnswer { refusal, place, ..SeveralAnswer::default() };
+        }
+        let most = if self.has(Fault::StopsOneLevelEarly) { asked.min(6) } else { asked };
+        let mut answer = SeveralAnswer::default();
+        while answer.levels < most {
+            let Some(undone) = self.undone(&mesh, 4, |_| ()) else { break };
+            answer.roles[answer.levels as usize] = undone.role as u8;
+            answer.levels += 1;
+            mesh = undone.coarse;
+        }
+        if self.has(Fault::RolesBehindTheLast) && answer.levels > 0 && answer.levels < 7 {
+            answer.roles[answer.levels as usize] = 4;
+        }
+        self.write(out, &mesh.list);
+        SeveralAnswer { vertices: mesh.vertices, triangles: mesh.triangles() as u64, ..answer }
+    }
+
+    // The library's own, but for their faults.
+    fn read_frames(&self, bytes: &[u8], out: &mut [u16]) -> Answer {
+        match self.0 {
+            Fault::LowerCaseRead => Library.read_frames(&bytes.to_ascii_uppercase(), out),
+            Fault::LastLineWithoutEnd if bytes.last().is_some_and(|&last| last != b'\n') => {
+                Library.read_frames(&[bytes, b"\n"].concat(), out)
+            }
+            _ => Library.read_frames(bytes, out),
+        }
+    }
+
+    fn write_frames(&self, vertices: u64, list: &[u16], out: &mut [u8]) -> Answer {
+        Library.write_frames(vertices, list, out)
+    }
+}
+
+fn triangles_of(list: &[u16]) -> Vec<[u16; 3]> {
+    list.chunks_exact(3).map(|corners| [corners[0], corners[1], corners[2]]).collect()
+}
+
+fn edge(v: u16, w: u16) -> (u16, u16) {
+    (v.min(w), v.max(w))
+}
+
+fn edges_of(triangles: &[[u16; 3]]) -> Edges {
+    let mut edges = Edges::new();
+    for (number, &[a, b, c]) in triangles.iter().enumerate() {
+        [edge(a, b), edge(b, c), edge(c, a)].into_iter().for_each(|edge| edges.entry(edge).or_default().push(number));
+    }
+    edges
+}
+
+// The corner that is neither of two.
+fn third(triangle: [u16; 3], v: u16, w: u16) -> u16 {
+    triangle.into_iter().find(|&corner| corner != v && corner != w).unwrap_or(v)
+}
+
+fn sorted(mut corners: [u16; 3]) -> [u16; 3] {
+    corners.sort();
+    corners
+}
+
+// Whether a map takes each number below its length once.
+fn once_each(map: &[u16]) -> bool {
+    let numbers: BTreeSet<u16> = map.iter().copied().collect();
+    numbers.len() == map.len() && numbers.last().is_none_or(|&last| (last as usize) < map.len())
+}

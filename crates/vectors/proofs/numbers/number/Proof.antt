@@ -1,0 +1,64 @@
+-- `vectors::numbers::number` meets its contract.
+-- The invariant: `at` has not gone back. The measure is what is left of the text.
+use Prim.Native.Nat.{_≤_, _-_}
+use lib.ListN.{length}
+use borrow.Author.Needs.{needs}
+use Rattle.vectors.proofs.numbers.number.Statement.{statement}
+use Rattle.vectors.proofs.numbers.number.Tie as tie
+
+abbrev Inv-loop : tie.InvT-loop
+Inv-loop text start value₀ at₀ value at = start ≤ at
+
+abbrev μ-loop : tie.MeasureT-loop
+μ-loop text start value₀ at₀ value at = length text - at
+
+loop-holds : tie.Need-loop-holds Inv-loop μ-loop
+loop-holds c = search needs
+
+shared-slice-read-digit-of : tie.Need-shared-slice-read-digit-of Inv-loop μ-loop
+shared-slice-read-digit-of c = search needs
+
+digit-of-requires : tie.Need-digit-of-requires Inv-loop μ-loop
+digit-of-requires c κs = search needs
+
+judged-requires : tie.Need-judged-requires Inv-loop μ-loop
+judged-requires c κs = search needs
+
+returns : tie.Need-returns Inv-loop μ-loop
+returns c = search needs
+
+with-digit-requires : tie.Need-with-digit-requires Inv-loop μ-loop
+with-digit-requires c κs = search needs
+
+add-at : tie.Need-add-at Inv-loop μ-loop
+add-at c = search needs
+
+loop-less : tie.Need-loop-less Inv-loop μ-loop
+loop-less c = search needs
+
+loop-again : tie.Need-loop-again Inv-loop μ-loop
+loop-again c = search needs
+
+judged-requires-2 : tie.Need-judged-requires-2 Inv-loop μ-loop
+judged-requires-2 c κs = search needs
+
+returns-2 : tie.Need-returns-2 Inv-loop μ-loop
+returns-2 c = search needs
+
+pub number-spec : {M : Type 1} → statement M
+number-spec =
+    tie.close
+    (tie.spec
+    Inv-loop
+    μ-loop
+    loop-holds
+    shared-slice-read-digit-of
+    digit-of-requires
+    judged-requires
+    returns
+    with-digit-requires
+    add-at
+    loop-less
+    loop-again
+    judged-requires-2
+    returns-2)

@@ -1,0 +1,212 @@
+/*
+ * A figure leaves for an app as a fine mesh and comes back: the five calls of Flatcarol, one after the other.
+ *
+ *     ./build-for-apps
+ *     cc examples/c/figure.c -Itarget/app/include -Ltarget/app/lib -lflatcarol -o target/figure && target/figure
+ *
+ * It prints figure.out. It is C99 and C++17.
+ */
+#include <inttypes.h>
+#include <stdio.h>
+#include <stdlib.h>
+#include <string.h>
+
+#include "flatcarol.h"
+
+/* ---- printing */
+
+static void print_triangles(const uint16_t *list, uint64_t triangles)
+{
+    for (uint64_t k = 0; k < triangles; k++) {
+        printf("  (%d, %d, %d)\n", list[3 * k], list[3 * k + 1], list[3 * k + 2]);
+    }
+}
+
+static void print_numbers(const char *name, const uint16_t *numbers, uint64_t count)
+{
+    printf("  %s:", name);
+    for (uint64_t i = 0; i < count; i++) {
+        printf(" %d", numbers[i]);
+    }
+    printf("\n");
+}
+
+static void print_refusal(uint64_t refusal, uint64_t place)
+{
+    printf("  refused %" PRIu64 " at %" PRIu64 ": %s\n", refusal, place, flatcarol_refusal_text(refusal));
+}
+
+/* Of what is right by construction: should it be refused after all, the program says so and ends. */
+static void must_be_accepted(uint64_t refusal, uint64_t place)
+{
+    if (refusal != FLATCAROL_ACCEPTED) {
+        print_refusal(refusal, place);
+        exit(1);
+    }
+}
+
+/* ---- one split and back
+
+   For meshes whose size is known beforehand, arrays will do. The block of work is cut by the call: here 7 buffers of
+   V + 3F = 6 entries for split, and 11 of 18 for undo one. */
+
+static void one_split_and_back(void)
+{
+    const uint16_t triangle[3] = {0, 1, 2};
+    uint16_t fine[12];
+    uint16_t work[11 * 18];
+
+    printf("one triangle, split\n");
+    const flatcarol_answer split = flatcarol_split_in(3, triangle, 3, fine, 12, work, flatcarol_split_work(3, 1));
+    must_be_accepted(split.refusal, split.place);
+    printf("  %" PRIu64 " vertices, %" PRIu64 " triangles\n", split.vertices, split.triangles);
+    print_triangles(fine, split.triangles);
+
+    /* In role 0 triangle 0 is a centre, the middle one of four, as it is in every splitting that comes out of
+       flatcarol_split. So the mesh comes back with the numbers that it had, and each map sends each number to
+       itself. */
+    uint16_t coarse[3];
+    uint16_t vertex_map[6];
+    uint16_t triangle_map[4];
+    printf("undone in role 0\n");
+    const flatcarol_one_answer undone = flatcarol_undo_one_in(
+        split.vertices, fine, 12, 0, coarse, 3, vertex_map, 6, triangle_map, 4, work, flatcarol_undo_one_work(6, 4));
+    must_be_accepted(undone.refusal, undone.place);
+    printf("  %" PRIu64 " vertices, %" PRIu64 " triangles\n", undone.vertices, undone.triangles);
+    print_triangles(coarse, undone.triangles);
+    print_numbers("vertex map", vertex_map, split.vertices);
+    print_numbers("triangle map", triangle_map, split.triangles);
+}
+
+/* ---- several levels
+
+   For meshes of any size, room for the largest is allocated once. Each call is lent only as much of the work as its
+   mesh needs, since it clears all that it is lent. */
+
+static void seven_splits_and_back(void)
+{
+    const size_t most_entries = 3 * FLATCAROL_MOST_TRIANGLES;
+    const size_t most_work = flatcarol_undo_several_work(FLATCAROL_MOST_VERTICES, FLATCAROL_MOST_TRIANGLES);
+    uint16_t *mesh = (uint16_t *)malloc(most_entries * sizeof(uint16_t));
+    uint16_t *other = (uint16_t *)malloc(most_entries * sizeof(uint16_t));
+    uint16_t *work = (uint16_t *)malloc(most_work * sizeof(uint16_t));
+    if (!mesh || !other || !work) {
+        printf("  no memory\n");
+        exit(1);
+    }
+
+    uint64_t vertices = 3;
+    uint64_t triangles = 1;
+    mesh[0] = 0;
+    mesh[1] = 1;
+    mesh[2] = 2;
+    printf("one triangle, split seven times\n");
+    for (int level = 0; level < FLATCAROL_MOST_LEVELS; level++) {
+        const flatcarol_answer split = flatcarol_split_in(
+            vertices, mesh, 3 * triangles, other, most_entries, work, flatcarol_split_work(vertices, triangles));
+        must_be_accepted(split.refusal, split.place);
+        vertices = split.vertices;
+        triangles = split.triangles;
+        printf("  %" PRIu64 " vertices, %" PRIu64 " triangles\n", vertices, triangles);
+        /* The result becomes the next call's list: buffers change places, as they must not overlap. */
+        uint16_t *const result = other;
+        other = mesh;
+        mesh = result;
+    }
+
+    printf("undone as often as it goes\n");
+    const flatcarol_several_answer undone = flatcarol_undo_several_in(
+        vertices, mesh, 3 * triangles, FLATCAROL_MOST_LEVELS, other, most_entries, work, most_work);
+    must_be_accepted(undone.refusal, undone.place);
+    printf("  %" PRIu64 " levels, in the roles", undone.levels);
+    for (uint64_t level = 0; level < undone.levels; level++) {
+        printf(" %d", undone.roles[level]);
+    }
+    printf("\n  %" PRIu64 " vertices, %" PRIu64 " triangles\n", undone.vertices, undone.triangles);
+    print_triangles(other, undone.triangles);
+
+    free(work);
+    free(other);
+    free(mesh);
+}
+
+/* ---- frames
+
+   A mesh that another app has renumbered, as it came: read, undone and written. */
+
+static void frames_read_and_written(void)
+{
+    const char *const text = "4D00060004\n"
+                             "46000500000003\n"
+                             "46000400010000\n"
+                             "46000300000001\n"
+                             "46000200030001\n";
+    uint8_t bytes[11 + 15 * 4];
+    memcpy(bytes, text, sizeof bytes);
+
+    uint16_t fine[12];
+    printf("frames, read\n");
+    const flatcarol_answer read = flatcarol_read_frames(bytes, sizeof bytes, fine, 12);
+    must_be_accepted(read.refusal, read.place);
+    printf("  %" PRIu64 " vertices, %" PRIu64 " triangles\n", read.vertices, read.triangles);
+    print_triangles(fine, read.triangles);
+
+    /* Which role triangle 0 has in a mesh that comes from elsewhere is not known: the least that has a reading. */
+    uint16_t coarse[3];
+    uint16_t vertex_map[6];
+    uint16_t triangle_map[4];
+    uint16_t work[11 * 18];
+    const flatcarol_one_answer undone = flatcarol_undo_one_in(
+        read.vertices, fine, 12, FLATCAROL_ANY_ROLE, coarse, 3, vertex_map, 6, triangle_map, 4, work, 11 * 18);
+    must_be_accepted(undone.refusal, undone.place);
+    printf("undone in role %" PRIu64 "\n", undone.role);
+    print_triangles(coarse, undone.triangles);
+    print_numbers("vertex map", vertex_map, read.vertices);
+    print_numbers("triangle map", triangle_map, read.triangles);
+
+    uint8_t out[11 + 15];
+    printf("and written\n");
+    const flatcarol_answer written = flatcarol_write_frames(undone.vertices, coarse, 3, out, sizeof out);
+    must_be_accepted(written.refusal, written.place);
+    /* Each line ends in a line feed; there is no zero byte behind the last. */
+    fwrite(out, 1, sizeof out, stdout);
+
+    /* The third line, which is line 2 as lines are counted from 0, gets a wrong kind. */
+    bytes[11 + 15 + 1] = '7';
+    printf("and with a wrong third line\n");
+    const flatcarol_answer wrong = flatcarol_read_frames(bytes, sizeof bytes, fine, 12);
+    print_refusal(wrong.refusal, wrong.place);
+}
+
+/* ---- refusals
+
+   None of these writes to the output, and none needs to be checked for before the call. */
+
+static void refusals(void)
+{
+    const uint16_t touching[6] = {0, 1, 2, 0, 3, 4};
+    uint16_t out[24];
+    uint16_t work[7 * 11];
+    flatcarol_answer answer;
+
+    printf("two triangles that touch at a point\n");
+    answer = flatcarol_split_in(5, touching, 6, out, 24, work, 7 * 11);
+    print_refusal(answer.refusal, answer.place);
+
+    printf("a block of work that is one entry too short\n");
+    answer = flatcarol_split_in(5, touching, 6, out, 24, work, 7 * 11 - 1);
+    print_refusal(answer.refusal, answer.place);
+
+    printf("a number of vertices that cannot be\n");
+    answer = flatcarol_split_in(UINT64_MAX, touching, 6, out, 24, work, 7 * 11);
+    print_refusal(answer.refusal, answer.place);
+}
+
+int main(void)
+{
+    one_split_and_back();
+    seven_splits_and_back();
+    frames_read_and_written();
+    refusals();
+    return 0;
+}

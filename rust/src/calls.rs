@@ -1,0 +1,222 @@
+//! The calls on slices: they write to the caller's buffers and allocate nothing but what the room grows by. The numbers of an answer
+//! are narrowed by `as`, since the library is proved to give none above its limits.
+
+use crate::{raw, Limits, OneOutputs, Refusal, Room};
+
+/// How many vertices and triangles a mesh has.
+#[derive(Clone, Copy, Debug, Default, PartialEq, Eq)]
+pub struct Counts {
+    /// The vertices are the numbers below this one.
+    pub vertices: usize,
+    /// Three entries of the list are a triangle.
+    pub triangles: usize,
+}
+
+impl Counts {
+    /// How many entries the list has: three for each triangle.
+    ///
+    /// ```
+    /// let counts = flatcarol::Counts { vertices: 6, triangles: 4 };
+    /// assert_eq!(counts.entries(), 12);
+    /// ```
+    pub fn entries(self) -> usize {
+        3 * self.triangles
+    }
+
+    /// How many bytes the frames of the mesh have: 11, and 15 for each triangle.
+    ///
+    /// ```
+    /// let counts = flatcarol::Counts { vertices: 6, triangles: 4 };
+    /// assert_eq!(counts.frame_bytes(), 71);
+    /// ```
+    pub fn frame_bytes(self) -> usize {
+        11 + 15 * self.triangles
+    }
+
+    // The counts that buffers are made for. A mesh above the limits is refused whatever is lent, and so gets as little as a mesh with
+    // nothing in it: no number that a caller gives leads to a large allocation.
+    pub(crate) fn to_lend_for(vertices: usize, list: &[u16], most_triangles: usize) -> Counts {
+        let triangles = list.len() / 3;
+        if vertices > Limits::VERTICES || triangles > most_triangles {
+            return Counts::default();
+        }
+        Counts { vertices, triangles }
+    }
+}
+
+/// What is asked of undo one.
+#[derive(Clone, Copy, Debug, PartialEq, Eq)]
+pub enum Asked {
+    /// The reading in which triangle 0 has this role: 0 if it is a centre, or 1, 2, 3 if its first, second or third corner is its
+    /// kept vertex. A number above 3 is no role, and is refused with [`Refusal::AskedTooMuch`].
+    Role(u8),
+    /// The reading with the least role.
+    Least,
+}
+
+impl Asked {
+    // Document 01's number: 4 asks for the least role, and all above it is refused.
+    fn number(self) -> u64 {
+        match self {
+            Asked::Role(role @ 0..=3) => u64::from(role),
+            Asked::Least => 4,
+            Asked::Role(_) => 5,
+        }
+    }
+}
+
+/// What [`undo_one`] found: the counts of the coarse mesh, and the role.
+#[derive(Clone, Copy, Debug, PartialEq, Eq)]
+pub struct ReadingCounts {
+    /// The coarse mesh: its first entries stand in the buffer `mesh`.
+    pub coarse: Counts,
+    /// The role of triangle 0, from 0 to 3.
+    pub role: u8,
+}
+
+/// What [`undo_several`] found: the counts of the coarsest mesh, and the role of each level.
+#[derive(Clone, Copy, Debug, PartialEq, Eq)]
+pub struct UndoneCounts {
+    /// The coarsest mesh.
+    pub coarse: Counts,
+    /// How many levels were undone.
+    pub levels: usize,
+    /// The role taken at each level, the first one undone first. Behind them stand zeros.
+    pub roles: [u8; Limits::LEVELS],
+}
+
+/// Splits a mesh: each triangle becomes four. `out` needs 12 entries for each triangle.
+///
+/// Gives the counts of the fine mesh, whose list is the first entries of `out`. Coarse vertices keep their numbers, each edge gets a
+/// new vertex, and triangle j becomes the triangles 4j (the centre) to 4j + 3.
+///
+/// ```
+/// use flatcarol::{split, Counts, Room};
+///
+/// let mut fine = [0; 12];
+/// let counts = split(3, &[0, 1, 2], &mut fine, &mut Room::new())?;
+/// assert_eq!(counts, Counts { vertices: 6, triangles: 4 });
+/// assert_eq!(fine, [3, 4, 5, 0, 3, 5, 1, 4, 3, 2, 5, 4]);
+/// # Ok::<(), flatcarol::Refusal>(())
+/// ```
+///
+/// # Errors
+///
+/// Refusals 2 to 10.
+pub fn split(vertices: usize, list: &[u16], out: &mut [u16], room: &mut Room) -> Result<Counts, Refusal> {
+    let work = room.lend(Counts::to_lend_for(vertices, list, Limits::SPLIT_TRIANGLES));
+    let answer = raw::split(vertices as u64, list, out, work);
+    counts(answer.refusal, answer.place, answer.vertices, answer.triangles)
+}
+
+/// Undoes one split. Of `out`, `mesh` needs 3 entries for every four triangles, the vertex map one for each vertex and the triangle
+/// map one for each triangle.
+///
+/// The coarse mesh numbers the kept vertices upward in the order of the input, and the centres likewise. The maps give the number
+/// that each vertex and each triangle of the input has in the splitting of the coarse mesh.
+///
+/// ```
+/// use flatcarol::{undo_one, Asked, OneOutputs, Room};
+///
+/// let list = [5, 0, 3, 4, 1, 0, 3, 0, 1, 2, 3, 1];
+/// let (mut mesh, mut vertex_map, mut triangle_map) = ([0; 3], [0; 6], [0; 4]);
+/// let out = OneOutputs { mesh: &mut mesh, vertex_map: &mut vertex_map, triangle_map: &mut triangle_map };
+/// let reading = undo_one(6, &list, Asked::Least, out, &mut Room::new())?;
+/// assert_eq!((reading.role, reading.coarse.vertices, reading.coarse.triangles), (1, 3, 1));
+/// assert_eq!(mesh, [0, 2, 1]);
+/// assert_eq!(vertex_map, [4, 5, 0, 3, 1, 2]);
+/// assert_eq!(triangle_map, [2, 3, 0, 1]);
+/// # Ok::<(), flatcarol::Refusal>(())
+/// ```
+///
+/// # Errors
+///
+/// Refusals 1 to 11.
+pub fn undo_one(vertices: usize, list: &[u16], asked: Asked, out: OneOutputs, room: &mut Room) -> Result<ReadingCounts, Refusal> {
+    let work = room.lend(Counts::to_lend_for(vertices, list, Limits::TRIANGLES));
+    let answer = raw::undo_one(vertices as u64, list, asked.number(), out, work);
+    let coarse = counts(answer.refusal, answer.place, answer.vertices, answer.triangles)?;
+    Ok(ReadingCounts { coarse, role: answer.role as u8 })
+}
+
+/// Undoes up to `levels` splits, from 0 to 7, each in the least role that has a reading. `out` needs as many entries as `list`.
+///
+/// It stops when that many levels are undone or the mesh has no reading: that is no refusal, and may be after 0 levels. The coarsest
+/// mesh's list is the first entries of `out`. With 0 levels it tells whether a mesh is proper.
+///
+/// ```
+/// use flatcarol::{undo_several, Room};
+///
+/// let list = [3, 4, 5, 0, 3, 5, 1, 4, 3, 2, 5, 4];
+/// let mut coarse = [0; 12];
+/// let undone = undo_several(6, &list, 7, &mut coarse, &mut Room::new())?;
+/// assert_eq!((undone.levels, undone.roles[0]), (1, 0));
+/// assert_eq!(coarse[..undone.coarse.entries()], [0, 1, 2]);
+/// # Ok::<(), flatcarol::Refusal>(())
+/// ```
+///
+/// # Errors
+///
+/// Refusals 1 to 10.
+pub fn undo_several(
+    vertices: usize,
+    list: &[u16],
+    levels: usize,
+    out: &mut [u16],
+    room: &mut Room,
+) -> Result<UndoneCounts, Refusal> {
+    let work = room.lend(Counts::to_lend_for(vertices, list, Limits::TRIANGLES));
+    let answer = raw::undo_several(vertices as u64, list, levels as u64, out, work);
+    let coarse = counts(answer.refusal, answer.place, answer.vertices, answer.triangles)?;
+    Ok(UndoneCounts { coarse, levels: answer.levels as usize, roles: answer.roles })
+}
+
+/// Reads a mesh from its frames. `out` needs 3 entries for each triangle that the first line says.
+///
+/// Corners are not judged: the mesh that was read need not be proper.
+///
+/// ```
+/// use flatcarol::{read_frames, Counts};
+///
+/// let mut list = [0; 3];
+/// let counts = read_frames(b"4D00030001\n46000000010002\n", &mut list)?;
+/// assert_eq!(counts, Counts { vertices: 3, triangles: 1 });
+/// assert_eq!(list, [0, 1, 2]);
+/// # Ok::<(), flatcarol::Refusal>(())
+/// ```
+///
+/// # Errors
+///
+/// Refusal 12 for the first line, then 4 and 5, then 12 for later lines.
+pub fn read_frames(bytes: &[u8], out: &mut [u16]) -> Result<Counts, Refusal> {
+    let answer = raw::read_frames(bytes, out);
+    counts(answer.refusal, answer.place, answer.vertices, answer.triangles)
+}
+
+/// Writes a mesh as frames. `out` needs 11 bytes, and 15 for each triangle: [`Counts::frame_bytes`].
+///
+/// ```
+/// use flatcarol::write_frames;
+///
+/// let mut bytes = [0; 26];
+/// let counts = write_frames(3, &[0, 1, 2], &mut bytes)?;
+/// assert_eq!(bytes[..counts.frame_bytes()], *b"4D00030001\n46000000010002\n");
+/// # Ok::<(), flatcarol::Refusal>(())
+/// ```
+///
+/// # Errors
+///
+/// Refusals 2, 4 and 5. A mesh without triangles is allowed.
+pub fn write_frames(vertices: usize, list: &[u16], out: &mut [u8]) -> Result<Counts, Refusal> {
+    let answer = raw::write_frames(vertices as u64, list, out);
+    counts(answer.refusal, answer.place, answer.vertices, answer.triangles)
+}
+
+// The part that all answers share: the refusal, or the counts.
+fn counts(refusal: u64, place: u64, vertices: u64, triangles: u64) -> Result<Counts, Refusal> {
+    if refusal == 0 {
+        return Ok(Counts { vertices: vertices as usize, triangles: triangles as usize });
+    }
+    // The library is proved to give no number but these, so this panics only if something else is linked in its place.
+    Err(Refusal::from_number(refusal, place as usize).expect("the linked library gives document 01's numbers"))
+}

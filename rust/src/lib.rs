@@ -1,0 +1,26 @@
+#![doc = include_str!("../README.md")]
+#![warn(missing_docs)]
+#![deny(unsafe_code)]
+
+mod calls;
+mod limits;
+mod mesh;
+// Not for apps: the bare calls, for whoever measures them.
+#[allow(unsafe_code)]
+#[doc(hidden)]
+pub mod raw;
+mod refusal;
+mod room;
+
+pub use calls::{read_frames, split, undo_one, undo_several, write_frames, Asked, Counts, ReadingCounts, UndoneCounts};
+pub use limits::Limits;
+pub use mesh::{Mesh, Reading, Undone};
+#[doc(inline)]
+pub use raw::OneOutputs;
+pub use refusal::Refusal;
+pub use room::Room;
+
+// The examples of the page on the calls are documentation tests too.
+#[cfg(doctest)]
+#[doc = include_str!("../../docs/CALLS.md")]
+struct CallsPage;

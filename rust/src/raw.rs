@@ -1,0 +1,134 @@
+//! The library's five calls as C functions, and each behind a safe function on slices. How long the buffers must be is said in
+//! docs/ROOM.md; a shorter one is refused.
+
+/// What a call answers: the refusal's number and place, or 0, 0 and the resulting counts.
+#[repr(C)]
+#[derive(Clone, Copy, Debug, Default, PartialEq, Eq)]
+pub struct Answer {
+    pub refusal: u64,
+    pub place: u64,
+    pub vertices: u64,
+    pub triangles: u64,
+}
+
+/// What undo one answers: the same, and the role that triangle 0 has.
+#[repr(C)]
+#[derive(Clone, Copy, Debug, Default, PartialEq, Eq)]
+pub struct OneAnswer {
+    pub refusal: u64,
+    pub place: u64,
+    pub vertices: u64,
+    pub triangles: u64,
+    pub role: u64,
+}
+
+/// What undo several answers: the same as split, how many levels were undone, and the role of each, with 0 in the places behind.
+#[repr(C)]
+#[derive(Clone, Copy, Debug, Default, PartialEq, Eq)]
+pub struct SeveralAnswer {
+    pub refusal: u64,
+    pub place: u64,
+    pub vertices: u64,
+    pub triangles: u64,
+    pub levels: u64,
+    pub roles: [u8; 7],
+}
+
+/// The output buffers of undo one.
+pub struct OneOutputs<'a> {
+    /// For the coarse mesh's list.
+    pub mesh: &'a mut [u16],
+    /// For the number of each vertex in the splitting of the coarse mesh.
+    pub vertex_map: &'a mut [u16],
+    /// For the number of each triangle in it.
+    pub triangle_map: &'a mut [u16],
+}
+
+/// The work buffers of a call.
+pub type Work<'a, const N: usize> = [&'a mut [u16]; N];
+
+pub const SPLIT_WORK: usize = 7;
+pub const ONE_WORK: usize = 11;
+pub const SEVERAL_WORK: usize = 12;
+
+// Declares C functions. Behind the other arguments of each stand the buffers that it writes and the type of their entries: each is
+// an address and a length in entries.
+macro_rules! declare {
+    ($($call:ident($($argument:ident: $type:ty),*; $entry:ty: $($buffer:ident),*);)*) => {
+        extern "C" {
+            $(fn $call($($argument: $type,)* $($buffer: *mut $entry, _: usize),*);)*
+        }
+    };
+}
+
+// Calls such a function, where each of the buffers is a slice.
+macro_rules! lend {
+    ($call:ident($($argument:expr),*; $($buffer:expr),*)) => {
+        $call($($argument,)* $($buffer.as_mut_ptr(), $buffer.len()),*)
+    };
+}
+
+// An answer is returned in memory, whose address goes before the other arguments: x86-64's convention has it so for a struct of
+// this size, and so has the archive that `rust/archive` makes for Arm, where C's own convention would have the address in a register
+// of its own.
+declare! {
+    flatcarol_split(answer: *mut Answer, vertices: u64, list: *const u16, list_len: usize;
+        u16: out, work1, work2, work3, work4, work5, work6, work7);
+    flatcarol_undo_one(answer: *mut OneAnswer, vertices: u64, list: *const u16, list_len: usize, asked: u64;
+        u16: mesh, vertex_map, triangle_map, work1, work2, work3, work4, work5, work6, work7, work8, work9, work10, work11);
+    flatcarol_undo_several(answer: *mut SeveralAnswer, vertices: u64, list: *const u16, list_len: usize, asked: u64;
+        u16: out, work1, work2, work3, work4, work5, work6, work7, work8, work9, work10, work11, work12);
+    flatcarol_read_frames(answer: *mut Answer, bytes: *const u8, bytes_len: usize; u16: out);
+    flatcarol_write_frames(answer: *mut Answer, vertices: u64, list: *const u16, list_len: usize; u8: out);
+}
+
+/// Splits a mesh of `vertices` vertices, whose triangles are `list`.
+pub fn split(vertices: u64, list: &[u16], out: &mut [u16], work: Work<SPLIT_WORK>) -> Answer {
+    let mut answer = Answer::default();
+    let [w1, w2, w3, w4, w5, w6, w7] = work;
+    // SAFETY: each pointer and length are those of a slice, and the slices that are written overlap no other, since they are
+    // borrowed mutably. The call asks for nothing else: it takes every input.
+    unsafe { lend!(flatcarol_split(&mut answer, vertices, list.as_ptr(), list.len(); out, w1, w2, w3, w4, w5, w6, w7)) };
+    answer
+}
+
+/// Undoes one split, in the role asked (0 to 3) or in the least that has a reading (4).
+pub fn undo_one(vertices: u64, list: &[u16], asked: u64, out: OneOutputs, work: Work<ONE_WORK>) -> OneAnswer {
+    let mut answer = OneAnswer::default();
+    let OneOutputs { mesh, vertex_map, triangle_map } = out;
+    let [w1, w2, w3, w4, w5, w6, w7, w8, w9, w10, w11] = work;
+    // SAFETY: as in `split`.
+    unsafe {
+        lend!(flatcarol_undo_one(&mut answer, vertices, list.as_ptr(), list.len(), asked;
+            mesh, vertex_map, triangle_map, w1, w2, w3, w4, w5, w6, w7, w8, w9, w10, w11))
+    };
+    answer
+}
+
+/// Undoes up to `asked` splits, each in the least role that has a reading.
+pub fn undo_several(vertices: u64, list: &[u16], asked: u64, out: &mut [u16], work: Work<SEVERAL_WORK>) -> SeveralAnswer {
+    let mut answer = SeveralAnswer::default();
+    let [w1, w2, w3, w4, w5, w6, w7, w8, w9, w10, w11, w12] = work;
+    // SAFETY: as in `split`.
+    unsafe {
+        lend!(flatcarol_undo_several(&mut answer, vertices, list.as_ptr(), list.len(), asked;
+            out, w1, w2, w3, w4, w5, w6, w7, w8, w9, w10, w11, w12))
+    };
+    answer
+}
+
+/// Reads a mesh from its frames.
+pub fn read_frames(bytes: &[u8], out: &mut [u16]) -> Answer {
+    let mut answer = Answer::default();
+    // SAFETY: as in `split`.
+    unsafe { lend!(flatcarol_read_frames(&mut answer, bytes.as_ptr(), bytes.len(); out)) };
+    answer
+}
+
+/// Writes a mesh as frames.
+pub fn write_frames(vertices: u64, list: &[u16], out: &mut [u8]) -> Answer {
+    let mut answer = Answer::default();
+    // SAFETY: as in `split`.
+    unsafe { lend!(flatcarol_write_frames(&mut answer, vertices, list.as_ptr(), list.len(); out)) };
+    answer
+}

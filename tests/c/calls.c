@@ -1,0 +1,429 @@
+/*
+ * Tries what flatcarol.h adds to the archive: that the declarations fit the archive's functions, argument by argument
+ * and field by field, the lengths of work, the cutting of one block, and calls in two threads. What the calls
+ * themselves do is proved, and is tried here only where it shows that nothing was mixed up on the way.
+ *
+ * Prints what went wrong, and nothing where nothing did. It is C99 and C++17.
+ */
+#include <inttypes.h>
+#include <pthread.h>
+#include <stdio.h>
+#include <stdlib.h>
+#include <string.h>
+
+#include "flatcarol.h"
+
+static int wrong = 0;
+
+static void expect(int holds, const char *what, size_t which)
+{
+    if (!holds) {
+        wrong++;
+        printf("wrong: %s (%zu)\n", what, which);
+    }
+}
+
+/* Whether the entries from one place up to another all hold a value. */
+static int all(const uint16_t *entries, size_t from, size_t to, uint16_t value)
+{
+    for (size_t i = from; i < to; i++) {
+        if (entries[i] != value) {
+            return 0;
+        }
+    }
+    return 1;
+}
+
+static int same(const uint16_t *a, const uint16_t *b, size_t count)
+{
+    return memcmp(a, b, count * sizeof(uint16_t)) == 0;
+}
+
+/* ---- meshes, all from document 01 */
+
+static const uint16_t triangle[3] = {0, 1, 2};
+static const uint16_t triangle_split[12] = {3, 4, 5, 0, 3, 5, 1, 4, 3, 2, 5, 4};
+
+/* The program's input, whose least role is 1: 6 vertices and 4 triangles, so that a work buffer needs 18 entries. */
+static const uint16_t sample[12] = {5, 0, 3, 4, 1, 0, 3, 0, 1, 2, 3, 1};
+static const uint16_t sample_mesh[3] = {0, 2, 1};
+static const uint16_t sample_vertices[6] = {4, 5, 0, 3, 1, 2};
+static const uint16_t sample_triangles[4] = {2, 3, 0, 1};
+
+/* Three triangles on one edge. */
+static const uint16_t fin[9] = {0, 1, 2, 0, 1, 3, 0, 1, 4};
+
+/* ---- the archive's own functions: each buffer in its place, with its own length */
+
+/* A buffer of which so many entries are lent. All hold 7 at first, also those behind. */
+typedef struct lent {
+    uint16_t entries[64];
+    size_t len;
+} lent;
+
+static lent lend(size_t len)
+{
+    lent buffer;
+    for (size_t i = 0; i < 64; i++) {
+        buffer.entries[i] = 7;
+    }
+    buffer.len = len;
+    return buffer;
+}
+
+/* Lends buffers of these lengths, each to a call's own argument. Buffer number `shorter`, counted from 1, has one entry
+   less, which is refused 5; 0 is none. */
+static void lend_all(lent *buffers, const size_t *lengths, size_t count, size_t shorter)
+{
+    for (size_t i = 0; i < count; i++) {
+        buffers[i] = lend(i + 1 == shorter ? lengths[i] - 1 : lengths[i]);
+    }
+}
+
+static void expect_output(const lent *buffer, const uint16_t *result, size_t count, uint64_t refusal, size_t which)
+{
+    const size_t written = refusal == FLATCAROL_ACCEPTED ? count : 0;
+    expect(same(buffer->entries, result, written), "the output has the result", which);
+    expect(all(buffer->entries, written, 64, 7), "the output is as it was behind the result", which);
+}
+
+static void expect_work(const lent *buffers, size_t count, size_t which)
+{
+    for (size_t i = 0; i < count; i++) {
+        expect(all(buffers[i].entries, 0, buffers[i].len, 0), "work is zero", which);
+        expect(all(buffers[i].entries, buffers[i].len, 64, 7), "what lies behind work is as it was", which);
+    }
+}
+
+static void try_split(size_t shorter)
+{
+    const size_t lengths[8] = {12, 6, 6, 6, 6, 6, 6, 6};
+    lent b[8];
+    lend_all(b, lengths, 8, shorter);
+    const flatcarol_answer a = flatcarol_split(
+        3, triangle, 3, b[0].entries, b[0].len, b[1].entries, b[1].len, b[2].entries, b[2].len, b[3].entries, b[3].len,
+        b[4].entries, b[4].len, b[5].entries, b[5].len, b[6].entries, b[6].len, b[7].entries, b[7].len);
+    const int refused = shorter != 0;
+    expect(a.refusal == (refused ? 5u : 0u) && a.place == 0, "split is refused 5 or accepted", shorter);
+    expect(a.vertices == (refused ? 0u : 6u) && a.triangles == (refused ? 0u : 4u), "split's counts", shorter);
+    expect_output(&b[0], triangle_split, 12, a.refusal, shorter);
+    expect_work(b + 1, 7, shorter);
+}
+
+static void try_undo_one(size_t shorter)
+{
+    const size_t lengths[14] = {3, 6, 4, 18, 18, 18, 18, 18, 18, 18, 18, 18, 18, 18};
+    lent b[14];
+    lend_all(b, lengths, 14, shorter);
+    const flatcarol_one_answer a = flatcarol_undo_one(
+        6, sample, 12, FLATCAROL_ANY_ROLE, b[0].entries, b[0].len, b[1].entries, b[1].len, b[2].entries, b[2].len,
+        b[3].entries, b[3].len, b[4].entries, b[4].len, b[5].entries, b[5].len, b[6].entries, b[6].len, b[7].entries,
+        b[7].len, b[8].entries, b[8].len, b[9].entries, b[9].len, b[10].entries, b[10].len, b[11].entries, b[11].len,
+        b[12].entries, b[12].len, b[13].entries, b[13].len);
+    const int refused = shorter != 0;
+    expect(a.refusal == (refused ? 5u : 0u) && a.place == 0, "undo one is refused 5 or accepted", shorter);
+    expect(a.vertices == (refused ? 0u : 3u) && a.triangles == (refused ? 0u : 1u), "undo one's counts", shorter);
+    expect(a.role == (refused ? 0u : 1u), "undo one's role", shorter);
+    expect_output(&b[0], sample_mesh, 3, a.refusal, shorter);
+    expect_output(&b[1], sample_vertices, 6, a.refusal, shorter);
+    expect_output(&b[2], sample_triangles, 4, a.refusal, shorter);
+    expect_work(b + 3, 11, shorter);
+}
+
+static void try_undo_several(size_t shorter)
+{
+    const size_t lengths[13] = {12, 18, 18, 18, 18, 18, 18, 18, 18, 18, 18, 18, 18};
+    lent b[13];
+    lend_all(b, lengths, 13, shorter);
+    const flatcarol_several_answer a = flatcarol_undo_several(
+        6, sample, 12, 7, b[0].entries, b[0].len, b[1].entries, b[1].len, b[2].entries, b[2].len, b[3].entries,
+        b[3].len, b[4].entries, b[4].len, b[5].entries, b[5].len, b[6].entries, b[6].len, b[7].entries, b[7].len,
+        b[8].entries, b[8].len, b[9].entries, b[9].len, b[10].entries, b[10].len, b[11].entries, b[11].len,
+        b[12].entries, b[12].len);
+    const uint8_t roles[2][7] = {{1, 0, 0, 0, 0, 0, 0}, {0, 0, 0, 0, 0, 0, 0}};
+    const int refused = shorter != 0;
+    expect(a.refusal == (refused ? 5u : 0u) && a.place == 0, "undo several is refused 5 or accepted", shorter);
+    expect(a.vertices == (refused ? 0u : 3u) && a.triangles == (refused ? 0u : 1u), "undo several's counts", shorter);
+    expect(a.levels == (refused ? 0u : 1u), "undo several's levels", shorter);
+    expect(memcmp(a.roles, roles[refused], 7) == 0, "undo several's roles", shorter);
+    expect_output(&b[0], sample_mesh, 3, a.refusal, shorter);
+    expect_work(b + 1, 12, shorter);
+}
+
+static void try_frames(void)
+{
+    const char *const text = "4D00060004\n46000500000003\n46000400010000\n46000300000001\n46000200030001\n";
+    uint8_t bytes[72];
+    memset(bytes, '7', sizeof bytes);
+    lent out = lend(12);
+
+    flatcarol_answer a = flatcarol_write_frames(6, sample, 12, bytes, 70);
+    expect(a.refusal == 5 && a.place == 0 && a.vertices == 0 && a.triangles == 0, "70 bytes are too short", 0);
+    expect(bytes[0] == '7', "a refusal writes no byte", 0);
+    a = flatcarol_write_frames(6, sample, 12, bytes, 72);
+    expect(a.refusal == 0 && a.place == 0 && a.vertices == 6 && a.triangles == 4, "frames are written", 0);
+    expect(memcmp(bytes, text, 71) == 0 && bytes[71] == '7', "the frames are document 01's", 0);
+
+    a = flatcarol_read_frames(bytes, 72, out.entries, out.len);
+    expect(a.refusal == 12 && a.place == 5 && a.vertices == 0 && a.triangles == 0, "a byte too many is refused", 0);
+    a = flatcarol_read_frames(bytes, 71, out.entries, 11);
+    expect(a.refusal == 5 && a.place == 0, "11 entries are too short", 0);
+    expect(all(out.entries, 0, 64, 7), "a refusal writes no entry", 0);
+    a = flatcarol_read_frames(bytes, 71, out.entries, out.len);
+    expect(a.refusal == 0 && a.place == 0 && a.vertices == 6 && a.triangles == 4, "frames are read", 0);
+    expect_output(&out, sample, 12, a.refusal, 0);
+
+    a = flatcarol_write_frames(0, sample, 0, bytes, 11);
+    expect(a.refusal == 0 && memcmp(bytes, "4D00000000\n", 11) == 0, "no triangle is written", 0);
+    a = flatcarol_write_frames(UINT64_MAX, sample, 12, bytes, 72);
+    expect(a.refusal == 4, "too many vertices are not written", 0);
+}
+
+/* Six splits of the sample, undone: the sample's own role, 1, is the last of seven. */
+static void try_last_role(void)
+{
+    static uint16_t lists[2][3 * FLATCAROL_MOST_TRIANGLES];
+    static uint16_t work[12 * (FLATCAROL_MOST_VERTICES + 3 * FLATCAROL_MOST_TRIANGLES)];
+    const uint8_t roles[7] = {0, 0, 0, 0, 0, 0, 1};
+    const size_t most = sizeof work / sizeof work[0];
+    uint64_t vertices = 6;
+    uint64_t triangles = 4;
+    expect(most == flatcarol_undo_several_work(UINT64_MAX, UINT64_MAX), "the most work", most);
+    memcpy(lists[0], sample, sizeof sample);
+    for (size_t i = 0; i < 6; i++) {
+        const flatcarol_answer a = flatcarol_split_in(
+            vertices, lists[i % 2], 3 * triangles, lists[(i + 1) % 2], 3 * FLATCAROL_MOST_TRIANGLES, work, most);
+        expect(a.refusal == 0, "the sample is split", i);
+        vertices = a.vertices;
+        triangles = a.triangles;
+    }
+    const flatcarol_several_answer a = flatcarol_undo_several_in(
+        vertices, lists[0], 3 * triangles, 7, lists[1], 3 * FLATCAROL_MOST_TRIANGLES, work, most);
+    expect(triangles == FLATCAROL_MOST_TRIANGLES && a.refusal == 0 && a.levels == 7, "seven levels are undone", 0);
+    expect(memcmp(a.roles, roles, 7) == 0, "the seventh role is the sample's", 0);
+    expect(a.vertices == 3 && a.triangles == 1 && same(lists[1], sample_mesh, 3), "the sample's mesh is left", 0);
+}
+
+/* ---- lengths of work */
+
+static void try_lengths(void)
+{
+    expect(flatcarol_work_each(0, 0) == 0, "V + 3F", 0);
+    expect(flatcarol_work_each(6, 4) == 18, "V + 3F", 1);
+    expect(flatcarol_split_work(6, 4) == 7 * 18, "seven for split", 0);
+    expect(flatcarol_undo_one_work(6, 4) == 11 * 18, "eleven for undo one", 0);
+    expect(flatcarol_undo_several_work(6, 4) == 12 * 18, "twelve for undo several", 0);
+
+    /* The largest meshes of docs/ROOM.md. */
+    expect(flatcarol_split_work(32767, 4096) == 315385, "the most for split", 0);
+    expect(flatcarol_undo_one_work(32767, 16384) == 901109, "the most for undo one", 0);
+    expect(flatcarol_undo_several_work(32767, 16384) == 983028, "the most for undo several", 0);
+
+    /* Above the limits nothing is added, and nothing overflows. */
+    const uint64_t absurd[5] = {32768, 65536, UINT64_MAX / 3, UINT64_MAX / 2 + 1, UINT64_MAX};
+    for (size_t i = 0; i < 5; i++) {
+        expect(flatcarol_work_each(absurd[i], 0) == 32767, "so many vertices", i);
+        expect(flatcarol_work_each(0, absurd[i]) == 49152, "so many triangles", i);
+        expect(flatcarol_undo_several_work(absurd[i], absurd[i]) == 983028, "so many of both", i);
+    }
+}
+
+/* ---- one block of work, cut */
+
+typedef enum call { SPLIT, UNDO_ONE, UNDO_SEVERAL } call;
+
+static const call calls[3] = {SPLIT, UNDO_ONE, UNDO_SEVERAL};
+static const size_t needed[3] = {7 * 18, 11 * 18, 12 * 18};
+
+/* Makes one of the calls on a mesh with enough room for the output, in a block. Answers the refusal. */
+static uint64_t refusal_in(
+    call which, uint64_t vertices, const uint16_t *list, size_t list_len, uint64_t asked, uint16_t *work,
+    size_t work_len)
+{
+    uint16_t out[48];
+    uint16_t vertex_map[6];
+    uint16_t triangle_map[4];
+    switch (which) {
+    case SPLIT: return flatcarol_split_in(vertices, list, list_len, out, 48, work, work_len).refusal;
+    case UNDO_ONE:
+        return flatcarol_undo_one_in(
+                   vertices, list, list_len, asked, out, 48, vertex_map, 6, triangle_map, 4, work, work_len)
+            .refusal;
+    case UNDO_SEVERAL:
+    default: return flatcarol_undo_several_in(vertices, list, list_len, asked, out, 48, work, work_len).refusal;
+    }
+}
+
+/* A block of every length, in memory of just that length, so that a checked build sees a pointer that leaves it. That
+   all of it is zero afterwards says that the buffers cover it: their lengths add up to its own, so none overlap. */
+static void try_blocks(void)
+{
+    for (size_t c = 0; c < 3; c++) {
+        for (size_t len = 0; len < needed[c] + 40; len++) {
+            uint16_t *const work = (uint16_t *)malloc(len * sizeof(uint16_t));
+            for (size_t i = 0; work && i < len; i++) {
+                work[i] = 0xFFFF;
+            }
+            const uint64_t refusal = refusal_in(calls[c], 6, sample, 12, 1, work, len);
+            expect(refusal == (len < needed[c] ? 5u : 0u), "a short block is refused 5, and no other", len);
+            expect(all(work, 0, work ? len : 0, 0), "all of the block is zero", len);
+            free(work);
+        }
+    }
+}
+
+static void try_null(void)
+{
+    uint16_t work[12 * 18];
+    for (size_t i = 0; i < 3; i++) {
+        expect(refusal_in(calls[i], 6, sample, 12, 1, NULL, 0) == 5, "no block", i);
+        expect(refusal_in(calls[i], 6, sample, 12, 1, NULL, SIZE_MAX) == 5, "no block, where malloc failed", i);
+        expect(refusal_in(calls[i], 0, NULL, 0, 1, work, 12 * 18) == 3, "no list", i);
+        expect(refusal_in(calls[i], 0, NULL, 12, 1, work, 12 * 18) == 3, "no list, with a length", i);
+        expect(refusal_in(calls[i], 0, NULL, 0, 1, NULL, 0) == 3, "no list and no block", i);
+    }
+    expect(flatcarol_split_in(6, sample, 12, NULL, 48, work, 12 * 18).refusal == 5, "no output", 0);
+    expect(flatcarol_undo_several_in(6, sample, 12, 1, NULL, 12, work, 12 * 18).refusal == 5, "no output", 1);
+    uint16_t mesh[3];
+    uint16_t map[6];
+    uint16_t other[4];
+    flatcarol_one_answer one = flatcarol_undo_one_in(6, sample, 12, 1, NULL, 3, map, 6, other, 4, work, 12 * 18);
+    expect(one.refusal == 5, "no mesh", 0);
+    one = flatcarol_undo_one_in(6, sample, 12, 1, mesh, 3, NULL, 6, other, 4, work, 12 * 18);
+    expect(one.refusal == 5, "no vertex map", 0);
+    one = flatcarol_undo_one_in(6, sample, 12, 1, mesh, 3, map, 6, NULL, 4, work, 12 * 18);
+    expect(one.refusal == 5, "no triangle map", 0);
+    /* One triangle needs no entry for the coarse mesh, and so no pointer. */
+    one = flatcarol_undo_one_in(3, triangle, 3, 4, NULL, 0, map, 3, other, 1, work, 12 * 18);
+    expect(one.refusal == 11, "no mesh where none is needed", 0);
+}
+
+static void try_absurd(void)
+{
+    uint16_t work[12 * 18];
+    for (size_t c = 0; c < 3; c++) {
+        expect(refusal_in(calls[c], UINT64_MAX, sample, 12, 1, work, 12 * 18) == 4, "V is 2^64 - 1", c);
+        expect(refusal_in(calls[c], UINT64_MAX - 17, sample, 12, 1, work, 12 * 18) == 4, "V + 3F is 0 modulo 2^64", c);
+        expect(refusal_in(calls[c], UINT64_MAX, sample, 12, 1, NULL, 0) == 4, "V is 2^64 - 1, without work", c);
+        expect(refusal_in(calls[c], 65542, sample, 12, 1, work, 12 * 18) == 4, "V is 6 modulo 2^16", c);
+        expect(refusal_in(calls[c], 6, sample, 11, 1, work, 12 * 18) == 2, "11 entries", c);
+        if (calls[c] != SPLIT) {
+            expect(refusal_in(calls[c], 6, sample, 12, UINT64_MAX, work, 12 * 18) == 1, "asked 2^64 - 1", c);
+            expect(refusal_in(calls[c], 6, sample, 12, 256, work, 12 * 18) == 1, "asked 0 modulo 2^8", c);
+        }
+    }
+}
+
+/* At the header's limits the calls get as far as 5, as no work is lent; one above they refuse 4 or 1. */
+static void try_limits(void)
+{
+    static const uint16_t list[3 * (FLATCAROL_MOST_TRIANGLES + 1)] = {0};
+    const uint64_t v = FLATCAROL_MOST_VERTICES;
+    const size_t triangles[3] = {FLATCAROL_MOST_SPLIT_TRIANGLES, FLATCAROL_MOST_TRIANGLES, FLATCAROL_MOST_TRIANGLES};
+    const uint64_t asked[3] = {0, FLATCAROL_ANY_ROLE, FLATCAROL_MOST_LEVELS};
+    for (size_t c = 0; c < 3; c++) {
+        const size_t len = 3 * triangles[c];
+        expect(refusal_in(calls[c], v, list, len, asked[c], NULL, 0) == 5, "at the limits", c);
+        expect(refusal_in(calls[c], v + 1, list, len, asked[c], NULL, 0) == 4, "a vertex too many", c);
+        expect(refusal_in(calls[c], v, list, len + 3, asked[c], NULL, 0) == 4, "a triangle too many", c);
+        if (calls[c] != SPLIT) {
+            expect(refusal_in(calls[c], v, list, len, asked[c] + 1, NULL, 0) == 1, "asked one too much", c);
+        }
+    }
+}
+
+static void try_texts(void)
+{
+    for (uint64_t number = 0; number < 14; number++) {
+        for (uint64_t other = number + 1; other < 15; other++) {
+            expect(
+                strcmp(flatcarol_refusal_text(number), flatcarol_refusal_text(other)) != 0,
+                "each refusal has a text of its own", number);
+        }
+    }
+    expect(strcmp(flatcarol_refusal_text(14), flatcarol_refusal_text(UINT64_MAX)) == 0, "other numbers have none", 0);
+}
+
+/* ---- two threads, each with buffers of its own */
+
+/* The mesh that a thread splits three times and undoes, again and again. */
+typedef struct task {
+    const uint16_t *list;
+    uint64_t vertices;
+    uint64_t triangles;
+    int right; /* how many rounds gave the mesh back */
+} task;
+
+enum { ROUNDS = 300, LEVELS = 3, MOST = 3 * 64 * 3 };
+
+static int round_trip(const task *mine)
+{
+    uint16_t lists[2][MOST];
+    uint16_t work[12 * (200 + MOST)];
+    uint64_t vertices = mine->vertices;
+    uint64_t triangles = mine->triangles;
+    memcpy(lists[0], mine->list, 3 * triangles * sizeof(uint16_t));
+    for (size_t i = 0; i < LEVELS; i++) {
+        const flatcarol_answer a = flatcarol_split_in(
+            vertices, lists[i % 2], 3 * triangles, lists[(i + 1) % 2], MOST, work,
+            flatcarol_split_work(vertices, triangles));
+        if (a.refusal != 0) {
+            return 0;
+        }
+        vertices = a.vertices;
+        triangles = a.triangles;
+    }
+    const flatcarol_several_answer a = flatcarol_undo_several_in(
+        vertices, lists[LEVELS % 2], 3 * triangles, LEVELS, lists[(LEVELS + 1) % 2], MOST, work,
+        flatcarol_undo_several_work(vertices, triangles));
+    return a.refusal == 0 && a.levels == LEVELS && a.vertices == mine->vertices && a.triangles == mine->triangles
+        && same(lists[(LEVELS + 1) % 2], mine->list, 3 * mine->triangles);
+}
+
+static void *run(void *given)
+{
+    task *const mine = (task *)given;
+    for (int i = 0; i < ROUNDS; i++) {
+        mine->right += round_trip(mine);
+    }
+    return NULL;
+}
+
+static void try_threads(void)
+{
+    task tasks[2] = {{triangle, 3, 1, 0}, {fin, 5, 3, 0}};
+    pthread_t threads[2];
+    for (size_t i = 0; i < 2; i++) {
+        if (pthread_create(&threads[i], NULL, run, &tasks[i]) != 0) {
+            printf("no thread could be made\n");
+            exit(1);
+        }
+    }
+    for (size_t i = 0; i < 2; i++) {
+        pthread_join(threads[i], NULL);
+        expect(tasks[i].right == ROUNDS, "every round of a thread gave its mesh back", i);
+    }
+}
+
+int main(void)
+{
+    for (size_t shorter = 0; shorter <= 8; shorter++) {
+        try_split(shorter);
+    }
+    for (size_t shorter = 0; shorter <= 14; shorter++) {
+        try_undo_one(shorter);
+    }
+    for (size_t shorter = 0; shorter <= 13; shorter++) {
+        try_undo_several(shorter);
+    }
+    try_frames();
+    try_last_role();
+    try_lengths();
+    try_blocks();
+    try_null();
+    try_absurd();
+    try_limits();
+    try_texts();
+    try_threads();
+    return wrong == 0 ? 0 : 1;
+}
