@@ -11,11 +11,10 @@ use Rattle.theory.specs.Mesh.{triangles}
 use Rattle.theory.specs.Refusals.{Short, Passed}
 use Rattle.theory.specs.Calls.{Answer, refusal, accepted, written}
 use Rattle.theory.specs.Frames.{frames, WritesFrames, refuses, accepts}
-use Rattle.limits.specs.Judged.{Judged, writeNumberRules}
+use Rattle.limits.specs.Judged.{Judged, writeNumberRules, writeRoomRules, writeSizeRules}
 use Rattle.limits.proofs.Judgement.{judged-passed}
 use Rattle.limits.proofs.Sized.{write-sized}
 use Rattle.frames.specs.Putting.{WriteLent}
-use Rattle.flatcarol.specs.Writing.{writeRoomRules, writeSizeRules}
 use Rattle.limits.proofs.Rules.{judged-refused, first-passed, second-passed}
 
 -- The verdict on 2, 4 and 5.

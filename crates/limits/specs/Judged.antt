@@ -1,10 +1,10 @@
 -- The judgement by rows of document 01's table of refusals, and the rows that look at numbers alone.
-use Prim.Native.Nat.{ℕ, _/_, _%_}
+use Prim.Native.Nat.{ℕ, _+_, _*_, _/_, _%_}
 use mathlib.Core.Path.{_≡_}
 use mathlib.Core.Logic.{_≢_}
-use mathlib.Core.List.{List, [], _∷_}
+use mathlib.Core.List.{List, [], _∷_, _++_}
 use Rattle.theory.specs.Limits.{mostTriangles}
-use Rattle.theory.specs.Refusals.{Rule, noPlace, tooLarge, Passed, Refused}
+use Rattle.theory.specs.Refusals.{Rule, noPlace, tooLarge, tooShort, Passed, Refused}
 
 -- The number and the place that the rules give, or 0 and 0 where they are passed.
 pub data Judged (rules : List Rule) : ℕ → ℕ → Type 0 where
@@ -23,3 +23,11 @@ sizeRules most N n =
 -- Its rows 2 and 4, where it is written as frames: "Writing frames gives 2, 4, 5 and allows F = 0".
 abbrev pub writeNumberRules : ℕ → ℕ → List Rule
 writeNumberRules N n = entriesNotThrees n ∷ tooLarge mostTriangles N (n / 3) ∷ []
+
+-- Row 5 of writing frames: "writing 11 + 15F bytes".
+abbrev pub writeRoomRules : (n out : ℕ) → List Rule
+writeRoomRules n out = tooShort (record { lent = out; needed = 11 + 15 * (n / 3) } ∷ []) ∷ []
+
+-- Rows 2, 4 and 5 of a list of n entries that is written as frames, where `out` bytes are lent.
+abbrev pub writeSizeRules : (N n out : ℕ) → List Rule
+writeSizeRules N n out = writeNumberRules N n ++ writeRoomRules n out

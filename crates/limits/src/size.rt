@@ -1,9 +1,10 @@
-// Refusals 1 to 4, which are judged from numbers alone.
+// Refusals 1 to 4, and 5 of writing frames, which are judged from numbers alone.
 use super::limits::Limits;
 ghost use mathlib.Core.List.{[], _∷_};
 ghost use Rattle.theory.specs.Limits.{mostTriangles, mostSplitTriangles, mostLevels};
 ghost use Rattle.theory.specs.Refusals.{askedTooMuch, tooLarge};
 ghost use Rattle.limits.specs.Judged.{Judged, entriesNotThrees, sizeRules, writeNumberRules};
+ghost use Rattle.limits.specs.Judged.{writeSizeRules};
 
 // 1 of a number of levels asked; 0 where it is not given.
 pub fn judge_levels(asked: u64) -> u64
@@ -52,7 +53,7 @@ fn judge_size(most: u64, vertices: u64, entries: usize) -> u64
 }
 
 // 2 and 4 of a mesh to write as frames, which may have no triangle; 0 where none is given.
-pub fn judge_size_to_write(vertices: u64, entries: usize) -> u64
+fn judge_size_to_write(vertices: u64, entries: usize) -> u64
     ensures { λ r. ⌜ Judged (writeNumberRules vertices entries) r 0 ⌝ }
 {
     let number = judge_threes(entries);
@@ -60,6 +61,20 @@ pub fn judge_size_to_write(vertices: u64, entries: usize) -> u64
         return number;
     }
     judge_large(Limits::TRIANGLES, vertices, entries / 3)
+}
+
+// 2, 4 and 5 of frames to write, of a list of so many entries, where `out` bytes are lent; 0 where none is given.
+pub fn judge_write_size(vertices: u64, entries: usize, out: usize) -> u64
+    ensures { λ r. ⌜ Judged (writeSizeRules vertices entries out) r 0 ⌝ }
+{
+    let number = judge_size_to_write(vertices, entries);
+    if number != 0 {
+        return number;
+    }
+    if out < 11 + 15 * (entries / 3) {
+        return 5;
+    }
+    0
 }
 
 // 2 of a list of so many entries; 0 where it is not given.

@@ -1,14 +1,14 @@
--- `flatcarol::call_frames::judge_write_size` meets its contract: 2 and 4 by `judge_size_to_write`, and 5 by the
+-- `limits::size::judge_write_size` meets its contract: 2 and 4 by `judge_size_to_write`, and 5 by the
 -- test.
 use native.Mathlib.Omega.{arith}
 use mathlib.Core.Logic.{inl, ⊎-elim}
 use borrow.Author.Needs.{needs}
 use Rattle.theory.specs.Refusals.{Short, Passed}
 use Rattle.limits.specs.Judged.{writeNumberRules}
 use Rattle.limits.proofs.Judgement.{judged-none, judged-passed, judged-front, judged-back}
 use Rattle.limits.proofs.Sized.{judged-at-0, judged-not, write-sized}
-use Rattle.flatcarol.proofs.call_frames.judge_write_size.Statement.{statement}
-use Rattle.flatcarol.proofs.call_frames.judge_write_size.Tie as tie
+use Rattle.limits.proofs.size.judge_write_size.Statement.{statement}
+use Rattle.limits.proofs.size.judge_write_size.Tie as tie
 
 -- past the first test, 2 and 4 are passed
 passed : (c : tie.Else1)

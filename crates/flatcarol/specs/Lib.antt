@@ -1,2 +1,0 @@
--- What writing frames is judged by.
-pub mod Writing
