@@ -1,20 +1,33 @@
-// What is measured: each call on each of its meshes, by either version on the same buffers, so that neither gains by where these
-// lie; and undo several beside undo one.
+// What is measured: each call on each of its meshes, by all versions on the same buffers, so that none gains by where these lie;
+// and undo several beside undo one.
 use std::hint::black_box;
 
+use crate::hashed;
 use crate::library::{self, Answer, OneAnswer, OneOutputs, OneWork, SeveralAnswer, SeveralWork, SplitWork};
-use crate::meshes::{self, Mesh, Several};
+use crate::meshes::{self, frames, Mesh, Several, SIZES};
 use crate::plain;
 
 type Split = fn(u64, &[u16], &mut [u16], &mut SplitWork) -> Answer;
 type UndoOne = fn(u64, &[u16], u64, &mut OneOutputs, &mut OneWork) -> OneAnswer;
 type UndoSeveral = fn(u64, &[u16], u64, &mut [u16], &mut SeveralWork) -> SeveralAnswer;
+type ReadFrames = fn(&[u8], &mut [u16]) -> Answer;
+type WriteFrames = fn(u64, &[u16], &mut [u8]) -> Answer;
 
-const LIBRARY: usize = 0;
-pub const NAMES: [&str; 2] = ["library", "plain"];
-pub const SPLITS: [Split; 2] = [library::split, plain::split::split];
-pub const UNDO_ONES: [UndoOne; 2] = [library::undo_one, plain::undo_one::undo_one];
-pub const UNDO_SEVERALS: [UndoSeveral; 2] = [library::undo_several, plain::undo_several::undo_several];
+// The versions by number. A copy of the input is measured as if it were another. Frames have no edges to find by a hash map.
+pub const LIBRARY: usize = 0;
+pub const PLAIN: usize = 1;
+pub const HASHED: usize = 2;
+pub const COPY: usize = 3;
+pub const NAMES: [&str; 4] = ["library", "plain", "hashed", "copy"];
+pub const SPLITS: [Split; 3] = [library::split, plain::split::split, hashed::split::split];
+pub const UNDO_ONES: [UndoOne; 3] = [library::undo_one, plain::undo_one::undo_one, hashed::undo_one::undo_one];
+pub const UNDO_SEVERALS: [UndoSeveral; 3] =
+    [library::undo_several, plain::undo_several::undo_several, hashed::undo_several::undo_several];
+pub const READS: [ReadFrames; 2] = [library::read_frames, plain::frames::read_frames];
+pub const WRITES: [WriteFrames; 2] = [library::write_frames, plain::frames::write_frames];
+
+const OF_MESHES: &[usize] = &[LIBRARY, PLAIN, HASHED, COPY];
+const OF_FRAMES: &[usize] = &[LIBRARY, PLAIN, COPY];
 
 // The number that undo one is asked: the least role that has a reading.
 pub const LEAST: u64 = 4;
@@ -22,67 +35,110 @@ pub const LEAST: u64 = 4;
 // The number that undo several is asked: as many levels as it undoes.
 pub const MOST_LEVELS: u64 = 7;
 
-// Runs one of two once: a version, or the library's undo several or undo one.
-pub type Run = Box<dyn FnMut(usize)>;
+pub const SPLIT: &str = "split";
+const UNDO_ONE: &str = "undo one";
+const UNDO_SEVERAL: &str = "undo several";
+const READ_FRAMES: &str = "read frames";
+const WRITE_FRAMES: &str = "write frames";
+pub const CALLS: [&str; 5] = [SPLIT, UNDO_ONE, UNDO_SEVERAL, READ_FRAMES, WRITE_FRAMES];
 
 pub struct Case {
     pub call: &'static str,
     pub mesh: &'static str,
     pub order: &'static str,
+    // Of the input.
     pub triangles: usize,
-    pub run: Run,
+    // What is measured, by number, and what runs it once.
+    pub versions: &'static [usize],
+    pub run: Box<dyn FnMut(usize)>,
 }
 
-// For each call the torus first, in both orders.
+// All cases, those of a call together, and in these those of a kind of mesh in an order, by size.
 pub fn all() -> Vec<Case> {
-    let splits = meshes::to_split().into_iter().map(split_case);
-    let undo_ones = meshes::to_undo().into_iter().map(undo_one_case);
-    let undo_severals = meshes::to_undo_several().into_iter().map(|several| undo_several_case(several.mesh));
-    splits.chain(undo_ones).chain(undo_severals).collect()
+    let mut all: Vec<Case> = SIZES.into_iter().flat_map(of_size).collect();
+    all.sort_by_key(|case| (CALLS.iter().position(|&call| call == case.call), case.mesh, case.order));
+    all
 }
 
-// The library's undo several and its undo one of the same meshes, each with the number of levels. These are cases apart, since a
-// version that is run beside another call of its own would find its code in the caches.
-pub fn several_and_one() -> Vec<(usize, Case)> {
+pub fn of_size(size: usize) -> Vec<Case> {
+    let splits = meshes::to_split(size).into_iter().map(split);
+    let undo_ones = meshes::to_undo(size).into_iter().map(undo_one);
+    let undo_severals = meshes::to_undo_several(size).into_iter().map(|several| undo_several(several.mesh));
+    let reads = meshes::to_write(size).into_iter().map(read_frames);
+    let writes = meshes::to_write(size).into_iter().map(write_frames);
+    splits.chain(undo_ones).chain(undo_severals).chain(reads).chain(writes).collect()
+}
+
+// The library's undo several and its undo one of the same meshes, as if these were two versions, each with the number of levels.
+// These are cases apart, since a version that is run beside another call of its own would find its code in the caches.
+pub fn several_and_one(size: usize) -> Vec<(usize, Case)> {
     let both = |Several { mesh, levels, .. }: Several| {
-        let one = undo_one_case(mesh.clone());
-        let several = undo_several_case(mesh);
+        let one = undo_one(mesh.clone());
+        let several = undo_several(mesh);
         let mut runs = [several.run, one.run];
         let run = Box::new(move |call: usize| runs[call](LIBRARY));
-        (levels, Case { run, ..several })
+        (levels, Case { versions: &[0, 1], run, ..several })
     };
-    meshes::to_undo_several().into_iter().map(both).collect()
+    meshes::to_undo_several(size).into_iter().map(both).collect()
 }
 
-fn split_case(mesh: Mesh) -> Case {
-    let triangles = mesh.list.len() / 3;
-    let (mut out, mut work) = split_buffers(mesh.vertices, &mesh.list);
-    let run = move |version: usize| {
-        black_box(SPLITS[version](black_box(mesh.vertices as u64), black_box(&mesh.list), &mut out, &mut work));
-        black_box((&mut out, &mut work));
-    };
-    Case { call: "split", mesh: mesh.name, order: mesh.order, triangles, run: Box::new(run) }
+fn split(mesh: Mesh) -> Case {
+    let buffers = split_buffers(mesh.vertices, &mesh.list);
+    case(SPLIT, OF_MESHES, &mesh, &mesh.list, buffers, |version, vertices, list, (out, work)| {
+        black_box(SPLITS[version](vertices, list, out, work));
+    })
 }
 
-fn undo_one_case(mesh: Mesh) -> Case {
-    let triangles = mesh.list.len() / 3;
-    let (mut out, mut work) = undo_one_buffers(mesh.vertices, &mesh.list);
-    let run = move |version: usize| {
-        black_box(UNDO_ONES[version](black_box(mesh.vertices as u64), black_box(&mesh.list), LEAST, &mut out, &mut work));
-        black_box((&mut out, &mut work));
-    };
-    Case { call: "undo one", mesh: mesh.name, order: mesh.order, triangles, run: Box::new(run) }
+fn undo_one(mesh: Mesh) -> Case {
+    let buffers = undo_one_buffers(mesh.vertices, &mesh.list);
+    case(UNDO_ONE, OF_MESHES, &mesh, &mesh.list, buffers, |version, vertices, list, (out, work)| {
+        black_box(UNDO_ONES[version](vertices, list, LEAST, out, work));
+    })
 }
 
-fn undo_several_case(mesh: Mesh) -> Case {
-    let triangles = mesh.list.len() / 3;
-    let (mut out, mut work) = undo_several_buffers(mesh.vertices, &mesh.list);
+fn undo_several(mesh: Mesh) -> Case {
+    let buffers = undo_several_buffers(mesh.vertices, &mesh.list);
+    case(UNDO_SEVERAL, OF_MESHES, &mesh, &mesh.list, buffers, |version, vertices, list, (out, work)| {
+        black_box(UNDO_SEVERALS[version](vertices, list, MOST_LEVELS, out, work));
+    })
+}
+
+fn read_frames(mesh: Mesh) -> Case {
+    let out = vec![LENT; mesh.list.len()];
+    case(READ_FRAMES, OF_FRAMES, &mesh, &frames(&mesh), out, |version, _, bytes, out| {
+        black_box(READS[version](bytes, out));
+    })
+}
+
+fn write_frames(mesh: Mesh) -> Case {
+    let out = frames(&mesh);
+    case(WRITE_FRAMES, OF_FRAMES, &mesh, &mesh.list, out, |version, vertices, list, out| {
+        black_box(WRITES[version](vertices, list, out));
+    })
+}
+
+// A case of a call, of which `run` runs a version: it is given the number of vertices, the input and the buffers.
+fn case<T: Copy + 'static, B: 'static>(
+    call: &'static str,
+    versions: &'static [usize],
+    mesh: &Mesh,
+    input: &[T],
+    mut buffers: B,
+    run: fn(usize, u64, &[T], &mut B),
+) -> Case {
+    let vertices = mesh.vertices as u64;
+    let input = input.to_vec();
+    let mut copy = input.clone();
     let run = move |version: usize| {
-        let vertices = black_box(mesh.vertices as u64);
-        black_box(UNDO_SEVERALS[version](vertices, black_box(&mesh.list), MOST_LEVELS, &mut out, &mut work));
-        black_box((&mut out, &mut work));
+        if version == COPY {
+            copy.copy_from_slice(black_box(&input));
+            black_box(&mut copy);
+        } else {
+            run(version, black_box(vertices), black_box(&input), &mut buffers);
+            black_box(&mut buffers);
+        }
     };
-    Case { call: "undo several", mesh: mesh.name, order: mesh.order, triangles, run: Box::new(run) }
+    Case { call, mesh: mesh.name, order: mesh.order, triangles: mesh.list.len() / 3, versions, run: Box::new(run) }
 }
 
 // An entry of a buffer as it is lent: not 0, so that a call that does not clear it is seen.

@@ -1,25 +1,34 @@
-// Both versions give the answers that a third way gives, on every mesh that is measured, and each refusal once: so both do the
-// work, and the judging, that the times are to include.
+// All versions give the answers that another way gives, on every mesh that is measured, and each refusal once: so all do the work,
+// and the judging, that the times are to include.
 use crate::cases::{
-    split_buffers, undo_one_buffers, undo_several_buffers, LEAST, LENT, MOST_LEVELS, NAMES, SPLITS, UNDO_ONES, UNDO_SEVERALS,
+    split_buffers, undo_one_buffers, undo_several_buffers, HASHED, LEAST, LENT, MOST_LEVELS, NAMES, READS, SPLITS, UNDO_ONES,
+    UNDO_SEVERALS, WRITES,
 };
 use crate::library::{Answer, OneAnswer, OneOutputs, SeveralAnswer};
-use crate::meshes::{self, splitting, Mesh, Several, FINE_TRIANGLES, TRIANGLES};
+use crate::meshes::{self, frames, splitting, Mesh, Several, MOST, MOST_TO_SPLIT, SIZES};
+
+// Those that do more than to read and write frames.
+const VERSIONS: std::ops::Range<usize> = 0..SPLITS.len();
 
 pub fn check_all() {
     check_one_triangle();
     check_mesh_refusals();
     check_other_refusals();
-    meshes::to_split().iter().for_each(check_split);
-    meshes::to_undo().iter().for_each(check_undo_one);
-    meshes::to_undo_several().iter().for_each(check_undo_several);
+    check_read_refusals();
+    check_write_refusals();
+    for size in SIZES {
+        meshes::to_split(size).iter().for_each(check_split);
+        meshes::to_undo(size).iter().for_each(check_undo_one);
+        meshes::to_undo_several(size).iter().for_each(check_undo_several);
+        meshes::to_write(size).iter().for_each(check_frames);
+    }
 }
 
 // The splitting of one triangle and its undoing, worked by hand.
 fn check_one_triangle() {
     let (coarse, fine) = ([2, 0, 1], [3, 4, 5, 2, 3, 5, 0, 4, 3, 1, 5, 4]);
     let reading = OneOutputs { mesh: coarse.into(), vertex_map: vec![0, 1, 2, 3, 4, 5], triangle_map: vec![0, 1, 2, 3] };
-    for version in [0, 1] {
+    for version in VERSIONS {
         let what = format!("{} on one triangle", NAMES[version]);
         let (mut out, mut work) = split_buffers(3, &coarse);
         let answer = SPLITS[version](3, &coarse, &mut out, &mut work);
@@ -51,15 +60,15 @@ fn check_mesh_refusals() {
         (9, &[0, 1, 2, 3, 2, 1, 4, 5, 6, 2, 7, 8], 10, 2),
         (4, &[0, 1, 2, 3, 2, 1], 0, 0),
     ];
-    for version in [0, 1] {
-        for (vertices, list, refusal, place) in cases.into_iter().chain([(3, &large(TRIANGLES)[..], 4, 0)]) {
+    for version in VERSIONS {
+        for (vertices, list, refusal, place) in cases.into_iter().chain([(3, &large(MOST_TO_SPLIT)[..], 4, 0)]) {
             let (mut out, mut work) = split_buffers(vertices as usize, list);
             let answer = SPLITS[version](vertices, list, &mut out, &mut work);
             assert_eq!((answer.refusal, answer.place), (refusal, place), "{} split {vertices}, {list:?}", NAMES[version]);
             assert!(refusal == 0 || out.iter().all(|&entry| entry == LENT), "{}: refusal {refusal} writes", NAMES[version]);
-            assert!(work.iter().flatten().all(|&entry| entry == 0), "{}: refusal {refusal} leaves work", NAMES[version]);
+            check_cleared(version, &work, "a refusal of split");
         }
-        for (vertices, list, refusal, place) in cases.into_iter().chain([(3, &large(FINE_TRIANGLES)[..], 4, 0)]) {
+        for (vertices, list, refusal, place) in cases.into_iter().chain([(3, &large(MOST)[..], 4, 0)]) {
             if refusal == 0 {
                 check_undo_one_refused(version, vertices, list, LEAST, (11, 0));
                 let answer = SeveralAnswer { vertices, triangles: list.len() as u64 / 3, ..Default::default() };
@@ -75,7 +84,7 @@ fn check_mesh_refusals() {
 // 1, the room that 5 is about, and 11 in a role that is asked where another role has a reading.
 fn check_other_refusals() {
     let (vertices, list) = splitting(3, &[0, 1, 2]);
-    for version in [0, 1] {
+    for version in VERSIONS {
         let name = NAMES[version];
         check_undo_one_refused(version, vertices as u64, &list, LEAST + 1, (1, 0));
         check_undo_several_refused(version, vertices as u64, &list, MOST_LEVELS + 1, (1, 0));
@@ -86,22 +95,93 @@ fn check_other_refusals() {
         let (mut out, mut work) = split_buffers(3, &[0, 1, 2]);
         assert_eq!(SPLITS[version](3, &[0, 1, 2], &mut out[..11], &mut work).refusal, 5, "{name} on a short output");
         work[6].pop();
-        assert_eq!(SPLITS[version](3, &[0, 1, 2], &mut out, &mut work).refusal, 5, "{name} on a short work buffer");
+        let refusal = if version == HASHED { 0 } else { 5 };
+        assert_eq!(SPLITS[version](3, &[0, 1, 2], &mut out, &mut work).refusal, refusal, "{name} on a short work buffer");
 
-        for short in 0..4 {
+        // The last of these are work buffers.
+        for short in if version == HASHED { 0..3 } else { 0..4 } {
             let (mut out, mut work) = undo_one_buffers(vertices, &list);
             [&mut out.mesh, &mut out.vertex_map, &mut out.triangle_map, &mut work[10]][short].pop();
             let answer = UNDO_ONES[version](vertices as u64, &list, LEAST, &mut out, &mut work);
             assert_eq!(answer.refusal, 5, "{name}: buffer {short} of undo one is short");
         }
 
-        for short in 0..2 {
+        for short in if version == HASHED { 0..1 } else { 0..2 } {
             let (mut out, mut work) = undo_several_buffers(vertices, &list);
             [&mut out, &mut work[11]][short].pop();
             let answer = UNDO_SEVERALS[version](vertices as u64, &list, MOST_LEVELS, &mut out, &mut work);
             assert_eq!(answer.refusal, 5, "{name}: buffer {short} of undo several is short");
         }
     }
+}
+
+// What reading refuses, each with its place, and the frames that are just accepted.
+fn check_read_refusals() {
+    const MESH: &str = "4D00030002\n";
+    const LINE: &str = "46000000010002\n";
+    let two = [MESH, LINE, LINE].concat();
+    let cases = [
+        (two.clone(), 0, 0),
+        ("4D7FFF0000\n".into(), 0, 0),
+        ("".into(), 12, 0),
+        ("4D00030002".into(), 12, 0),
+        ("4d00030002\n".into(), 12, 0),
+        ("4D80000000\n".into(), 4, 0),
+        ("4D00034001\n".into(), 4, 0),
+        ([MESH, LINE].concat(), 12, 2),
+        ([MESH, LINE, &LINE[..14]].concat(), 12, 2),
+        ([MESH, "4600000001000a\n", LINE].concat(), 12, 1),
+        ([MESH, LINE, "47000000010002\n"].concat(), 12, 2),
+        (two.clone() + "\n", 12, 3),
+    ];
+    for version in 0..READS.len() {
+        for (text, refusal, place) in &cases {
+            let mut out = vec![LENT; 6];
+            let answer = READS[version](text.as_bytes(), &mut out);
+            assert_eq!((answer.refusal, answer.place), (*refusal, *place), "{} reads {text:?}", NAMES[version]);
+            assert!(*refusal == 0 || out == [LENT; 6], "{}: a refusal writes", NAMES[version]);
+        }
+        assert_eq!(READS[version](two.as_bytes(), &mut [LENT; 5]).refusal, 5, "{} reads into a short buffer", NAMES[version]);
+    }
+}
+
+fn check_write_refusals() {
+    let large = vec![0; 3 * (MOST + 1)];
+    let cases: [(u64, &[u16], usize, u64); 6] = [
+        (0, &[], 11, 0),
+        (0, &[], 10, 5),
+        (3, &[0, 1, 2], 25, 5),
+        (3, &[0, 1], 26, 2),
+        (32_768, &[0, 1, 2], 26, 4),
+        (3, &large, 15 * large.len(), 4),
+    ];
+    for version in 0..WRITES.len() {
+        for (vertices, list, room, refusal) in cases {
+            let answer = WRITES[version](vertices, list, &mut vec![0; room]);
+            let triangles = if refusal == 0 { list.len() as u64 / 3 } else { 0 };
+            assert_eq!((answer.refusal, answer.triangles), (refusal, triangles), "{} writes {vertices}", NAMES[version]);
+        }
+    }
+}
+
+// A mesh is written as the standard library formats it, and read back.
+fn check_frames(mesh: &Mesh) {
+    let bytes = frames(mesh);
+    let expected = Answer { refusal: 0, place: 0, vertices: mesh.vertices as u64, triangles: mesh.list.len() as u64 / 3 };
+    for version in 0..READS.len() {
+        let mut written = vec![0; bytes.len()];
+        assert_eq!(WRITES[version](mesh.vertices as u64, &mesh.list, &mut written), expected, "{}", NAMES[version]);
+        assert!(written == bytes, "{} writes other frames", NAMES[version]);
+        let mut read = vec![LENT; mesh.list.len()];
+        assert_eq!(READS[version](&bytes, &mut read), expected, "{}", NAMES[version]);
+        assert!(read == mesh.list, "{} reads another mesh", NAMES[version]);
+    }
+}
+
+// Of the work buffers, which the hashed version does not use.
+fn check_cleared(version: usize, work: &[Vec<u16>], what: &str) {
+    let cleared = work.iter().flatten().all(|&entry| entry == 0);
+    assert!(cleared || version == HASHED, "{what}: {} leaves a work buffer that is not cleared", NAMES[version]);
 }
 
 fn check_undo_one_refused(version: usize, vertices: u64, list: &[u16], asked: u64, (refusal, place): (u64, u64)) {
@@ -111,7 +191,7 @@ fn check_undo_one_refused(version: usize, vertices: u64, list: &[u16], asked: u6
     let answer = UNDO_ONES[version](vertices, list, asked, &mut out, &mut work);
     assert_eq!(answer, OneAnswer { refusal, place, vertices: 0, triangles: 0, role: 0 }, "{what}");
     assert!(out == before, "{what}: a refusal writes");
-    assert!(work.iter().flatten().all(|&entry| entry == 0), "{what}: a work buffer is not cleared");
+    check_cleared(version, &work, &what);
 }
 
 fn check_undo_several_refused(version: usize, vertices: u64, list: &[u16], asked: u64, (refusal, place): (u64, u64)) {
@@ -126,26 +206,26 @@ fn check_levels(version: usize, (vertices, list): (u64, &[u16]), asked: u64, exp
     assert_eq!(answer, expected, "{what}");
     assert!(out[..left.len()] == *left, "{what}: another mesh is left");
     assert!(out[left.len()..].iter().all(|&entry| entry == LENT), "{what}: writes behind the mesh that is left");
-    assert!(work.iter().flatten().all(|&entry| entry == 0), "{what}: a work buffer is not cleared");
+    check_cleared(version, &work, &what);
 }
 
 fn check_split(mesh: &Mesh) {
     let (vertices, expected) = splitting(mesh.vertices, &mesh.list);
-    for version in [0, 1] {
+    for version in VERSIONS {
         let what = format!("{} on {}, {}", NAMES[version], mesh.name, mesh.order);
         let (mut out, mut work) = split_buffers(mesh.vertices, &mesh.list);
         let answer = SPLITS[version](mesh.vertices as u64, &mesh.list, &mut out, &mut work);
         let triangles = expected.len() as u64 / 3;
         assert_eq!(answer, Answer { refusal: 0, place: 0, vertices: vertices as u64, triangles }, "{what}");
         assert!(out == expected, "{what}: another output");
-        assert!(work.iter().flatten().all(|&entry| entry == 0), "{what}: a work buffer is not cleared");
+        check_cleared(version, &work, &what);
     }
 }
 
 // A mesh that no splitting made is refused, whatever is asked. Any other is undone, and refused in the roles before the least.
 fn check_undo_one(mesh: &Mesh) {
     let kept = kept(mesh);
-    for version in [0, 1] {
+    for version in VERSIONS {
         let refused = if kept.is_empty() { 0..LEAST + 1 } else { 0..check_undone(version, mesh, &kept) };
         for asked in refused {
             check_undo_one_refused(version, mesh.vertices as u64, &mesh.list, asked, (11, 0));
@@ -174,7 +254,7 @@ fn undo_one_accepted(version: usize, mesh: &Mesh, asked: u64) -> (OneAnswer, One
     let (mut out, mut work) = undo_one_buffers(mesh.vertices, &mesh.list);
     let answer = UNDO_ONES[version](mesh.vertices as u64, &mesh.list, asked, &mut out, &mut work);
     assert_eq!((answer.refusal, answer.place, answer.triangles), (0, 0, mesh.list.len() as u64 / 12), "{what}");
-    assert!(work.iter().flatten().all(|&entry| entry == 0), "{what}: a work buffer is not cleared");
+    check_cleared(version, &work, &what);
 
     let (vertices, fours) = splitting(answer.vertices as usize, &out.mesh);
     assert_eq!(vertices, mesh.vertices, "{what}: another number of vertices");
@@ -200,7 +280,7 @@ fn undo_one_accepted(version: usize, mesh: &Mesh, asked: u64) -> (OneAnswer, One
 fn check_undo_several(several: &Several) {
     let Several { mesh, first, levels } = several;
     let what = format!("{}, {}", mesh.name, mesh.order);
-    for version in [0, 1] {
+    for version in VERSIONS {
         let undone = undo_ones(version, mesh, *levels);
         for asked in 0..=MOST_LEVELS {
             let (answer, left) = &undone[undone.len().min(asked as usize + 1) - 1];

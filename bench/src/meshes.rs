@@ -1,9 +1,14 @@
-// The meshes that are measured: the largest that a call takes, 4,096 triangles for a split and 16,384 for an undo, and for each a
-// torus of a sixteenth of that.
+// The meshes that are measured, of four sizes.
 use std::collections::{BTreeMap, BTreeSet};
 
-pub const TRIANGLES: usize = 4_096;
-pub const FINE_TRIANGLES: usize = 4 * TRIANGLES;
+// How many triangles a mesh to undo has, or a few fewer where it is said so; and the splitting of a mesh to split, which has a
+// quarter. The last is the most that a call takes.
+pub const SIZES: [usize; 4] = [256, 1_024, 4_096, MOST];
+pub const MOST: usize = 16_384;
+pub const MOST_TO_SPLIT: usize = MOST / 4;
+
+pub const IN_ORDER: &str = "in order";
+const SHUFFLED: &str = "shuffled";
 
 #[derive(Clone)]
 pub struct Mesh {
@@ -18,19 +23,20 @@ pub struct Mesh {
 }
 
 // The meshes to split.
-pub fn to_split() -> Vec<Mesh> {
+pub fn to_split(size: usize) -> Vec<Mesh> {
     let mut random = Random::new();
-    let glued = glued(&mut random);
-    in_both_orders([torus("torus", 64, 32), fan(), book(), glued, torus("small", 16, 8)], &mut random)
+    let coarse = size / 4;
+    let meshes = [torus(coarse), fan(coarse), book(coarse), glued(coarse, &mut random)];
+    in_both_orders(meshes, &mut random)
 }
 
-// The meshes to undo: splittings, and two that no role reads. In a torus with odd sides each role reaches all tiles, four times as
-// many as it may, and in the last each goes further than that.
-pub fn to_undo() -> Vec<Mesh> {
+// The meshes to undo: splittings, and those that no role reads.
+pub fn to_undo(size: usize) -> Vec<Mesh> {
     let mut random = Random::new();
-    let glued = glued(&mut random);
-    let meshes = [torus("torus", 64, 32), split_times(&triangle(), 6), fan(), book(), glued, torus("small", 16, 8)];
-    in_both_orders(meshes.iter().map(split_of).chain([torus("odd", 127, 63), refused(128, 64)]), &mut random)
+    let coarse = size / 4;
+    let depth = coarse.ilog(4) as usize;
+    let meshes = [torus(coarse), split_times(&triangle(), depth), fan(coarse), book(coarse), glued(coarse, &mut random)];
+    in_both_orders(meshes.iter().map(split_of).chain([odd_torus(size)]).chain(refused(size)), &mut random)
 }
 
 // A mesh to undo several levels of.
@@ -41,16 +47,32 @@ pub struct Several {
     pub levels: usize,
 }
 
-// The meshes to undo several levels of: as deep as can be, or of one level, after which `refused` is refused late.
-pub fn to_undo_several() -> Vec<Several> {
+// The meshes to undo several levels of: as deep as can be, of one level, after which `refused` is refused late, or of none.
+pub fn to_undo_several(size: usize) -> Vec<Several> {
     let mut random = Random::new();
-    let firsts =
-        [(least_torus("torus"), 5), (triangle(), 7), (fan(), 1), (book(), 1), (refused(64, 32), 1), (least_torus("small"), 3)];
+    let coarse = size / 4;
+    let depth = size.ilog(4) as usize;
+    let once = [fan(coarse), book(coarse), glued(coarse, &mut random)].into_iter().chain(refused(coarse));
+    let firsts = [(least_torus(), depth - 2), (triangle(), depth)]
+        .into_iter()
+        .chain(once.map(|first| (first, 1)))
+        .chain([(odd_torus(size), 0)]);
     let both = |(first, levels): (Mesh, usize)| {
         let orders = in_both_orders([split_times(&first, levels)], &mut random);
         orders.into_iter().map(move |mesh| Several { mesh, first: first.clone(), levels })
     };
-    firsts.into_iter().flat_map(both).collect()
+    firsts.flat_map(both).collect()
+}
+
+// The meshes to write as frames and to read from them, of which the numbers alone matter.
+pub fn to_write(size: usize) -> Vec<Mesh> {
+    in_both_orders([torus(size)], &mut Random::new())
+}
+
+// The frames of a mesh, by the formatting of the standard library.
+pub fn frames(mesh: &Mesh) -> Vec<u8> {
+    let lines = mesh.list.chunks_exact(3).map(|t| format!("46{:04X}{:04X}{:04X}\n", t[0], t[1], t[2]));
+    [format!("4D{:04X}{:04X}\n", mesh.vertices, mesh.list.len() / 3)].into_iter().chain(lines).collect::<String>().into_bytes()
 }
 
 // Each mesh in the order that its making gives and shuffled, always the same ones.
@@ -65,34 +87,51 @@ fn in_both_orders(meshes: impl IntoIterator<Item = Mesh>, random: &mut Random) -
 fn mesh(name: &'static str, vertices: usize, triangles: Vec<[usize; 3]>) -> Mesh {
     let coarse = vec![None; triangles.len()];
     let list = triangles.into_iter().flatten().map(|corner| corner as u16).collect();
-    Mesh { name, order: "in order", vertices, list, coarse }
+    Mesh { name, order: IN_ORDER, vertices, list, coarse }
 }
 
 // A mesh as programs have it: every edge in two triangles, six triangles at a vertex, neighbours near in the list.
-fn torus(name: &'static str, wide: usize, high: usize) -> Mesh {
+fn torus(triangles: usize) -> Mesh {
+    let (wide, high) = sides(triangles);
+    torus_of("torus", wide, high)
+}
+
+// One with odd sides, a row and a column smaller. Each role reaches all tiles, four times as many as it may.
+fn odd_torus(triangles: usize) -> Mesh {
+    let (wide, high) = sides(triangles);
+    torus_of("odd", wide - 1, high - 1)
+}
+
+// Of a torus of so many triangles that is twice as wide as high.
+fn sides(triangles: usize) -> (usize, usize) {
+    let high = (triangles / 4).isqrt();
+    (2 * high, high)
+}
+
+fn torus_of(name: &'static str, wide: usize, high: usize) -> Mesh {
     let vertex = |x: usize, y: usize| (y % high) * wide + x % wide;
     let quad = |x: usize, y: usize| [vertex(x, y), vertex(x + 1, y), vertex(x + 1, y + 1), vertex(x, y + 1)];
     let quads = (0..high).flat_map(|y| (0..wide).map(move |x| quad(x, y)));
     mesh(name, wide * high, quads.flat_map(|[a, b, c, d]| [[a, b, c], [a, c, d]]).collect())
 }
 
-// All triangles at one vertex, so that in order one chain of the edge table, that of the lesser end 0, has 8,192 half-edges.
-fn fan() -> Mesh {
-    let rim = |k: usize| 1 + k % TRIANGLES;
-    mesh("fan", 1 + TRIANGLES, (0..TRIANGLES).map(|k| [0, rim(k), rim(k + 1)]).collect())
+// All triangles at one vertex, so that in order one chain of the edge table, that of the lesser end 0, has two half-edges of each.
+fn fan(triangles: usize) -> Mesh {
+    let rim = |k: usize| 1 + k % triangles;
+    mesh("fan", 1 + triangles, (0..triangles).map(|k| [0, rim(k), rim(k + 1)]).collect())
 }
 
-// All triangles on one edge, which has 4,096 half-edges.
-fn book() -> Mesh {
-    mesh("book", 2 + TRIANGLES, (0..TRIANGLES).map(|k| [0, 1, 2 + k]).collect())
+// All triangles on one edge, which has a half-edge of each.
+fn book(triangles: usize) -> Mesh {
+    mesh("book", 2 + triangles, (0..triangles).map(|k| [0, 1, 2 + k]).collect())
 }
 
 // Each triangle is glued to a random edge of those before it, two times of three with a new vertex, else with a random old one.
-fn glued(random: &mut Random) -> Mesh {
+fn glued(size: usize, random: &mut Random) -> Mesh {
     let mut triangles = vec![[0, 1, 2]];
     let mut vertices = 3;
     let mut known = BTreeSet::from([[0, 1, 2]]);
-    while triangles.len() < TRIANGLES {
+    while triangles.len() < size {
         let [p, q, r] = triangles[random.below(triangles.len())];
         let [a, b] = [[p, q], [q, r], [r, p]][random.below(3)];
         let closes = random.below(3) == 0;
@@ -115,19 +154,23 @@ fn triangle() -> Mesh {
 }
 
 // A torus of 16 triangles on 8 vertices, six at each, whose edges are the pairs of vertices that are 1, 2 or 3 apart in a circle.
-fn least_torus(name: &'static str) -> Mesh {
+fn least_torus() -> Mesh {
     let after = |vertex: usize, places: usize| (vertex + places) % 8;
-    mesh(name, 8, (0..8).flat_map(|a| [[a, after(a, 1), after(a, 3)], [a, after(a, 3), after(a, 2)]]).collect())
+    mesh("torus", 8, (0..8).flat_map(|a| [[a, after(a, 1), after(a, 3)], [a, after(a, 3), after(a, 2)]]).collect())
 }
 
 // A mesh that all four roles refuse, and late. A torus has a reading in each role: the vertices that it keeps are those with x even
 // or odd and y even or odd. Of each of these four sorts seven vertices are made one, near the end of the list, a vertex and the six
 // that each have two neighbours of the same sort in common with it. So in each role the coarse mesh has 6 vertices and 18 edges
 // fewer, as many as the whole mesh has lost, and only the vertices of the other three sorts, which would need several numbers,
-// tell.
-fn refused(wide: usize, high: usize) -> Mesh {
+// tell. A torus of fewer than 4,096 triangles has no room for that.
+fn refused(triangles: usize) -> Option<Mesh> {
     const RING: [(isize, isize); 6] = [(4, 2), (2, 4), (-2, 2), (-4, -2), (-2, -4), (2, -2)];
-    let mut mesh = torus("refused", wide, high);
+    if triangles < 4_096 {
+        return None;
+    }
+    let (wide, high) = sides(triangles);
+    let mut mesh = torus_of("refused", wide, high);
     for (i, j) in [(0, 0), (1, 0), (0, 1), (1, 1)] {
         let (x, y) = (wide / 8 + wide / 2 * i + (wide / 4 + 1) * j, high - 6 + i);
         let ring = RING.map(|(dx, dy)| y.wrapping_add_signed(dy) * wide + x.wrapping_add_signed(dx));
@@ -139,7 +182,7 @@ fn refused(wide: usize, high: usize) -> Mesh {
     let ranks: BTreeMap<u16, u16> = used.into_iter().zip(0..).collect();
     mesh.list = mesh.list.iter().map(|corner| ranks[corner]).collect();
     mesh.vertices = ranks.len();
-    mesh
+    Some(mesh)
 }
 
 fn split_of(mesh: &Mesh) -> Mesh {
@@ -152,7 +195,7 @@ fn split_times(mesh: &Mesh, times: usize) -> Mesh {
     (0..times).fold(mesh.clone(), |mesh, _| split_of(&mesh))
 }
 
-// The splitting of a list, by a map of edges that neither version has: how many vertices it has, and its triangles.
+// The splitting of a list, by a map of edges that no version has: how many vertices it has, and its triangles.
 pub fn splitting(vertices: usize, list: &[u16]) -> (usize, Vec<u16>) {
     let mut numbers = BTreeMap::new();
     let mut fours = Vec::new();
@@ -182,7 +225,7 @@ fn shuffled(mesh: &Mesh, random: &mut Random) -> Mesh {
         }
     }
     let (triangles, coarse): (Vec<_>, Vec<_>) = triangles.into_iter().unzip();
-    Mesh { order: "shuffled", list: triangles.concat(), coarse, ..*mesh }
+    Mesh { order: SHUFFLED, list: triangles.concat(), coarse, ..*mesh }
 }
 
 // Marsaglia's xorshift of 64 bits: the meshes must be the same in every run, and on every machine.

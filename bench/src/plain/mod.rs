@@ -1,15 +1,13 @@
 // The calls as a Rust program would have them: the library's steps and tables, on the same lent buffers, with iterators where they
 // go in order and checked indices elsewhere. Here stands what all calls share. Half-edge h runs from corner h to the next corner
 // of its triangle.
+pub mod frames;
 pub mod split;
 mod undo;
 pub mod undo_one;
 pub mod undo_several;
 
-const MOST_VERTICES: u64 = 32_767;
-
-// A refusal's number and place.
-struct Refusal(u64, usize);
+use crate::refusals::Refusal;
 
 fn clear(work: &mut [Vec<u16>]) {
     for buffer in work {
@@ -20,19 +18,6 @@ fn clear(work: &mut [Vec<u16>]) {
 // How many entries each of the buffers has.
 fn room(work: &[Vec<u16>]) -> usize {
     work.iter().map(Vec::len).min().unwrap_or(0)
-}
-
-// Refusals 2 to 4.
-fn judge_size(most_triangles: usize, vertices: u64, entries: usize) -> Result<(), Refusal> {
-    if entries % 3 != 0 {
-        Err(Refusal(2, 0))
-    } else if entries == 0 {
-        Err(Refusal(3, 0))
-    } else if entries / 3 > most_triangles || vertices > MOST_VERTICES {
-        Err(Refusal(4, 0))
-    } else {
-        Ok(())
-    }
 }
 
 // Refusals 6 to 10. Where none is given, `link` and `first` hold the edge table.

@@ -1,18 +1,8 @@
 // What undo one and undo several share: the roles of a mesh.
-use super::{edge_table, has_equal, judge_size, mark_used, number_edges, owners, reach, third_vertices, write_fours, Refusal};
+use super::{edge_table, has_equal, mark_used, number_edges, owners, reach, third_vertices, write_fours};
 use std::ops::Range;
 
-const MOST_TRIANGLES: usize = 16_384;
-
 pub const ROLES: Range<usize> = 0..4;
-
-// Refusals 1 to 4.
-pub fn judge_numbers(most_asked: u64, asked: u64, vertices: u64, entries: usize) -> Result<(), Refusal> {
-    if asked > most_asked {
-        return Err(Refusal(1, 0));
-    }
-    judge_size(MOST_TRIANGLES, vertices, entries)
-}
 
 // What all roles share: the mesh, the half-edge across each half-edge, the covering mesh, its edge table, and the triangle of each
 // half-edge. Each table has an entry for each half-edge.

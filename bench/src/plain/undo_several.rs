@@ -1,31 +1,20 @@
 // Undo several.
-use super::undo::{judge_numbers, least_role, Role, Tables, ROLES};
-use super::{clear, edge_table, judge, room, Refusal};
+use super::undo::{least_role, Role, Tables, ROLES};
+use super::{clear, edge_table, judge, room};
 use crate::library::{SeveralAnswer, SeveralWork};
+use crate::refusals::{judge_undo_several, several_answer, Refusal};
 use std::mem::swap;
-
-const MOST_LEVELS: u64 = 7;
 
 // Never inlined, since the library's call is not either.
 #[inline(never)]
 pub fn undo_several(vertices: u64, list: &[u16], asked: u64, out: &mut [u16], work: &mut SeveralWork) -> SeveralAnswer {
-    let sizes = judge_sizes(vertices, list.len(), asked, out.len(), room(work));
+    let sizes = judge_undo_several(vertices, list.len(), asked, out.len(), room(work));
     clear(work);
-    let answer = sizes.and_then(|()| {
+    several_answer(sizes.and_then(|()| {
         let undone = undo_levels(vertices as usize, list, asked, out, work);
         clear(work);
         undone
-    });
-    answer.unwrap_or_else(|Refusal(refusal, place)| SeveralAnswer { refusal, place: place as u64, ..Default::default() })
-}
-
-// Refusals 1 to 5.
-fn judge_sizes(vertices: u64, entries: usize, asked: u64, out: usize, room: usize) -> Result<(), Refusal> {
-    judge_numbers(MOST_LEVELS, asked, vertices, entries)?;
-    if out < entries || room < vertices as usize + entries {
-        return Err(Refusal(5, 0));
-    }
-    Ok(())
+    }))
 }
 
 // Refusals 6 to 10, and the levels. The mesh is judged once: a coarse mesh that a role reads off a proper one is proper too. Where
