@@ -2,4 +2,5 @@
 pub mod Parts
 pub mod Given
 pub mod Judging
+pub mod RightLines
 pub mod Putting

@@ -14,16 +14,10 @@ pub enum Digit {
 pub(crate) fn digit_value(byte: u8) -> Digit
     ensures { λ r. ⌜ digitOf r ≡ digitValue byte ⌝ }
 {
-    if byte < b'0' {
-        return Digit::Wrong;
-    }
-    if byte <= b'9' {
+    if b'0' <= byte && byte <= b'9' {
         return Digit::Holds((byte - b'0') as u16);
     }
-    if byte < b'A' {
-        return Digit::Wrong;
-    }
-    if byte <= b'F' {
+    if b'A' <= byte && byte <= b'F' {
         return Digit::Holds((byte - b'A' + 10) as u16);
     }
     Digit::Wrong

@@ -6,5 +6,6 @@ pub mod lines;
 pub mod numbers;
 pub mod puts;
 pub mod reading;
+pub mod right;
 pub mod text;
 pub mod writing;

@@ -5,6 +5,7 @@ use super::numbers::Step;
 use super::numbers::take_end;
 use super::numbers::take_kind;
 use super::numbers::take_number;
+use super::numbers::too_few;
 ghost use mathlib.Core.Path.{_≡_};
 ghost use lib.ListN.{drop};
 ghost use Rattle.theory.specs.Frames.{takeLine};
@@ -35,7 +36,11 @@ pub enum TriangleFrame {
 pub(crate) fn take_mesh(bytes: &[u8]) -> MeshFrame
     ensures { λ r. ⌜ meshGiven (now (bytes .entry)) r ≡ given (takeLine 0x4D 2 (now (bytes .entry))) ⌝ }
 {
-    let Step::Holds(cursor) = take_kind(bytes, Cursor { at: 0 }, 0x4D) else {
+    let cursor = Cursor { at: 0 };
+    if too_few(bytes, cursor, 11) {
+        return MeshFrame::Wrong;
+    }
+    let Step::Holds(cursor) = take_kind(bytes, cursor, 0x4D) else {
         return MeshFrame::Wrong;
     };
     let Number::Holds {
@@ -67,6 +72,9 @@ pub(crate) fn take_triangle(bytes: &[u8], cursor: Cursor) -> TriangleFrame
     ensures { λ r. ⌜ triangleGiven (now (bytes .entry)) r
         ≡ given (takeLine 0x46 3 (drop (cursor .at) (now (bytes .entry)))) ⌝ }
 {
+    if too_few(bytes, cursor, 15) {
+        return TriangleFrame::Wrong;
+    }
     let Step::Holds(cursor) = take_kind(bytes, cursor, 0x46) else {
         return TriangleFrame::Wrong;
     };

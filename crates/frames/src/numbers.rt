@@ -1,11 +1,12 @@
 // The parts of a line, each read from where a cursor stands: a number of some digits, the line's kind and its end.
 use super::digits::Digit;
+use super::digits::digit_byte;
 use super::digits::digit_value;
 ghost use mathlib.Core.Path.{_≡_};
-ghost use Prim.Native.Nat.{_≤_};
-ghost use lib.ListN.{drop};
+ghost use Prim.Native.Nat.{_+_, _<_};
+ghost use lib.ListN.{length, drop};
 ghost use Rattle.theory.specs.Frames.{takeDigits, takeEnd};
-ghost use Rattle.frames.specs.Parts.{numberOf, stepOf, takeKind};
+ghost use Rattle.frames.specs.Parts.{TooFew, DigitsLeft, KindLeft, numberOf, stepOf, takeKind};
 
 // Where to read on.
 pub struct Cursor {
@@ -24,18 +25,25 @@ pub enum Step {
     Wrong,
 }
 
+// Whether fewer bytes than so many are left from the cursor on: a line asks once, and its parts no more.
+pub(crate) fn too_few(bytes: &[u8], cursor: Cursor, count: usize) -> bool
+    ensures { λ r. ⌜ TooFew (cursor .at) count (now (bytes .entry)) r ⌝ }
+{
+    if bytes.len() < count {
+        return true;
+    }
+    bytes.len() - count < cursor.at
+}
+
 // A number of so many digits, four at most.
 pub(crate) fn take_number(bytes: &[u8], cursor: Cursor, digits: usize) -> Number
-    requires { ⌜ digits ≤ 4 ⌝ }
+    requires { ⌜ DigitsLeft digits (cursor .at) (now bytes) ⌝ }
     ensures { λ r. ⌜ numberOf (now (bytes .entry)) r ≡ takeDigits digits 0 (drop (cursor .at) (now (bytes .entry))) ⌝ }
 {
     let mut at = cursor.at;
     let mut left = digits;
     let mut value: u16 = 0;
     while 0 < left {
-        if bytes.len() <= at {
-            return Number::Wrong;
-        }
         let Digit::Holds(digit) = digit_value(bytes[at]) else {
             return Number::Wrong;
         };
@@ -50,27 +58,28 @@ pub(crate) fn take_number(bytes: &[u8], cursor: Cursor, digits: usize) -> Number
 }
 
 // The kind of a line, in two digits.
-pub(crate) fn take_kind(bytes: &[u8], cursor: Cursor, kind: u16) -> Step
+pub(crate) fn take_kind(bytes: &[u8], cursor: Cursor, kind: usize) -> Step
+    requires { ⌜ KindLeft kind (cursor .at) (now bytes) ⌝ }
     ensures { λ r. ⌜ stepOf (now (bytes .entry)) r ≡ takeKind kind (drop (cursor .at) (now (bytes .entry))) ⌝ }
 {
-    let Number::Holds { value, cursor } = take_number(bytes, cursor, 2) else {
-        return Step::Wrong;
-    };
-    if value != kind {
+    let at = cursor.at;
+    if bytes[at] != digit_byte(kind / 16) {
         return Step::Wrong;
     }
-    Step::Holds(cursor)
+    if bytes[at + 1] != digit_byte(kind % 16) {
+        return Step::Wrong;
+    }
+    Step::Holds(Cursor { at: at + 2 })
 }
 
 // The end of a line, one LF.
 pub(crate) fn take_end(bytes: &[u8], cursor: Cursor) -> Step
+    requires { ⌜ cursor .at < length (now bytes) ⌝ }
     ensures { λ r. ⌜ stepOf (now (bytes .entry)) r ≡ takeEnd (drop (cursor .at) (now (bytes .entry))) ⌝ }
 {
     let at = cursor.at;
-    if at < bytes.len() {
-        if bytes[at] == b'\n' {
-            return Step::Holds(Cursor { at: at + 1 });
-        }
+    if bytes[at] == b'\n' {
+        return Step::Holds(Cursor { at: at + 1 });
     }
     Step::Wrong
 }

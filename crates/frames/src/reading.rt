@@ -4,6 +4,7 @@ use super::lines::TriangleFrame;
 use super::lines::take_mesh;
 use super::lines::take_triangle;
 use super::numbers::Cursor;
+use super::right::write_corners;
 ghost use Prim.Native.Nat.{_<_};
 ghost use mathlib.Core.Path.{_≡_};
 ghost use mathlib.Core.List.{[]};
@@ -75,22 +76,11 @@ fn read_triangles(bytes: &[u8], cursor: Cursor, triangles: usize, out: &mut [u16
     ensures { λ _. ⌜ TrianglesRead triangles (drop (cursor .at) (now (bytes .entry))) (now (out .entry))
         (now (out .exit)) ⌝ }
 {
-    let mut cursor = cursor;
+    let mut place = cursor.at;
     let mut k = 0;
     while k < triangles {
-        let TriangleFrame::Holds {
-            a,
-            b,
-            c,
-            cursor: next,
-        } = take_triangle(bytes, cursor)
-        else {
-            return;
-        };
-        out[3 * k] = a;
-        out[3 * k + 1] = b;
-        out[3 * k + 2] = c;
-        cursor = next;
+        write_corners(bytes, place, out, k);
+        place += 15;
         k += 1;
     }
 }

@@ -75,7 +75,7 @@ unfolding digitValue
 digitValue-high b l m = cc (le-leb 48 b (omega arith), lt-leb b 57 (omega arith), le-leb 65 b l, le-leb b 70 m)
 
 -- a digit that is written reads back
-digitValue-digit : (d : ℕ) → d < 16 → digitValue (digit d) ≡ some d
+pub digitValue-digit : (d : ℕ) → d < 16 → digitValue (digit d) ≡ some d
 digitValue-digit d l = go (decLt d 10)
   where
     go : Dec (d < 10) → digitValue (digit d) ≡ some d

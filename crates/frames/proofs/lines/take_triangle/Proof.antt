@@ -1,20 +1,26 @@
 -- `frames::lines::take_triangle` meets its contract: part by part, as `takeLine` takes them.
-use Prim.Native.Nat.{ℕ}
+use native.Mathlib.Omega.{arith}
+use Prim.Native.Nat.{ℕ, _+_, _≤_}
 use mathlib.Core.Path.{_∙_, sym, ap}
 use mathlib.Core.List.{List, [], _∷_}
-use lib.ListN.{drop}
+use lib.ListN.{length, drop}
 use borrow.Author.Needs.{needs}
 use Rattle.frames.specs.Parts.{numberOf, stepOf}
 use Rattle.frames.specs.Given.{given}
 use Rattle.frames.proofs.Takes.{Begun, no-kind, begins, no-number, number-read, no-end, line-read}
+use Rattle.frames.proofs.Takes.{no-line, number-there, end-there}
 use Rattle.frames.proofs.lines.take_triangle.Statement.{statement}
 use Rattle.frames.proofs.lines.take_triangle.Tie as tie
 
 -- ---- what has been read of the line
 
+-- its bytes are there
+abbrev tested : tie.After-known-told → tie.Else1
+tested c = c .before .before .before .before
+
 -- the kind
 abbrev start : tie.After-known-told → tie.Start
-start c = c .before .before .before .before .before
+start c = tested c .before .before .before
 
 -- one number
 abbrev one : tie.After-known-told2 → tie.After-known-told
@@ -31,6 +37,11 @@ three c = c .before .before .before .before
 -- the bytes from where the line starts
 abbrev from : tie.Start → List ℕ
 from s = drop (s .args .cursor .at) (s .args .bytes .now)
+
+enough : (c : tie.Else1)
+    → let s = c .before .before .before in
+    s .args .cursor .at + 15 ≤ length (s .args .bytes .now)
+enough c = omega (arith, c .before .too-few .ensures .enough (c .if1 .left))
 
 none-read : (c : tie.After-known-told)
     → Begun 0x46 3 (from (start c)) 3 [] (drop (c .before .cursor .given .0 .0 .at) (start c .args .bytes .now))
@@ -66,8 +77,18 @@ three-read c =
 
 -- ---- the answers
 
+too-few-requires : tie.Need-too-few-requires
+too-few-requires c κs = search needs
+
+returns : tie.Need-returns
+unfolding given
+returns c =
+    let s = c .before .before .before in
+    sym (ap given (no-line _ _ (s .args .cursor .at) (s .args .bytes .now)
+    (omega (arith, c .before .too-few .ensures .short (c .if1 .taken)))))
+
 take-kind-requires : tie.Need-take-kind-requires
-take-kind-requires c κs = search needs
+take-kind-requires c κs = record { small = omega arith; there = omega (arith, enough c) }
 
 enum-known-cursor : tie.Need-enum-known-cursor
 enum-known-cursor c = search needs
@@ -75,14 +96,14 @@ enum-known-cursor c = search needs
 enum-told : tie.Need-enum-told
 enum-told c = search needs
 
-returns : tie.Need-returns
+returns-2 : tie.Need-returns-2
 unfolding given
-returns c =
+returns-2 c =
     let t = c .before .before in
     sym (ap given (no-kind _ _ _ (sym (t .take-kind .ensures) ∙ ap (stepOf _) (c .enum-told .given .1))))
 
 take-number-requires : tie.Need-take-number-requires
-take-number-requires c κs = search needs
+take-number-requires c κs = number-there _ _ _ (enough (tested c)) (none-read c)
 
 enum-known-a : tie.Need-enum-known-a
 enum-known-a c = search needs
@@ -90,15 +111,15 @@ enum-known-a c = search needs
 enum-told-2 : tie.Need-enum-told-2
 enum-told-2 c = search needs
 
-returns-2 : tie.Need-returns-2
+returns-3 : tie.Need-returns-3
 unfolding given
-returns-2 c =
+returns-3 c =
     let t = c .before .before in
     sym (ap given (no-number (none-read (t .before))
     (sym (t .take-number .ensures) ∙ ap (numberOf _) (c .enum-told2 .given .1))))
 
 take-number-requires-2 : tie.Need-take-number-requires-2
-take-number-requires-2 c κs = search needs
+take-number-requires-2 c κs = number-there _ _ _ (enough (tested (one c))) (one-read c)
 
 enum-known-b : tie.Need-enum-known-b
 enum-known-b c = search needs
@@ -106,15 +127,15 @@ enum-known-b c = search needs
 enum-told-3 : tie.Need-enum-told-3
 enum-told-3 c = search needs
 
-returns-3 : tie.Need-returns-3
+returns-4 : tie.Need-returns-4
 unfolding given
-returns-3 c =
+returns-4 c =
     let t = c .before .before in
     sym (ap given (no-number (one-read (t .before))
     (sym (t .take-number2 .ensures) ∙ ap (numberOf _) (c .enum-told3 .given .1))))
 
 take-number-requires-3 : tie.Need-take-number-requires-3
-take-number-requires-3 c κs = search needs
+take-number-requires-3 c κs = number-there _ _ _ (enough (tested (one (two c)))) (two-read c)
 
 enum-known-c : tie.Need-enum-known-c
 enum-known-c c = search needs
@@ -122,15 +143,15 @@ enum-known-c c = search needs
 enum-told-4 : tie.Need-enum-told-4
 enum-told-4 c = search needs
 
-returns-4 : tie.Need-returns-4
+returns-5 : tie.Need-returns-5
 unfolding given
-returns-4 c =
+returns-5 c =
     let t = c .before .before in
     sym (ap given (no-number (two-read (t .before))
     (sym (t .take-number3 .ensures) ∙ ap (numberOf _) (c .enum-told4 .given .1))))
 
 take-end-requires : tie.Need-take-end-requires
-take-end-requires c κs = search needs
+take-end-requires c κs = end-there _ _ _ (enough (tested (one (two (three c))))) (three-read c)
 
 enum-known-cursor-2 : tie.Need-enum-known-cursor-2
 enum-known-cursor-2 c = search needs
@@ -138,16 +159,16 @@ enum-known-cursor-2 c = search needs
 enum-told-5 : tie.Need-enum-told-5
 enum-told-5 c = search needs
 
-returns-5 : tie.Need-returns-5
+returns-6 : tie.Need-returns-6
 unfolding given
-returns-5 c =
+returns-6 c =
     let t = c .before .before in
     sym (ap given (no-end (three-read (t .before))
     (sym (t .take-end .ensures) ∙ ap (stepOf _) (c .enum-told5 .given .1))))
 
-returns-6 : tie.Need-returns-6
+returns-7 : tie.Need-returns-7
 unfolding given
-returns-6 c =
+returns-7 c =
     let t = c .before .before .before in
     sym (ap given (line-read _ (three-read (t .before))
     (sym (t .take-end .ensures) ∙ ap (stepOf _) (c .before .cursor2 .given .1))))
@@ -156,24 +177,26 @@ pub take-triangle-spec : {M : Type 1} → statement M
 take-triangle-spec =
     tie.close
     (tie.spec
+    too-few-requires
+    returns
     take-kind-requires
     enum-known-cursor
     enum-told
-    returns
+    returns-2
     take-number-requires
     enum-known-a
     enum-told-2
-    returns-2
+    returns-3
     take-number-requires-2
     enum-known-b
     enum-told-3
-    returns-3
+    returns-4
     take-number-requires-3
     enum-known-c
     enum-told-4
-    returns-4
+    returns-5
     take-end-requires
     enum-known-cursor-2
     enum-told-5
-    returns-5
-    returns-6)
+    returns-6
+    returns-7)

@@ -1,5 +1,6 @@
 -- `frames::numbers::take_number` meets its contract. The invariant: what is left to read after the digits so far is
--- what was to be read, and the value leaves room for the digits that are left. The measure is their number.
+-- what was to be read, the bytes of the digits that are left are there, and the value leaves room for those digits. The
+-- measure is their number.
 use native.Mathlib.Omega.{arith}
 use Prim.Native.Nat.{ℕ, zero, suc, _+_, _-_, _*_, _/_, _≤_, _<_}
 use mathlib.Core.Path.{_≡_, refl, sym, ap, _∙_}
@@ -10,8 +11,8 @@ use borrow.Author.Needs.{needs}
 use Rattle.theory.specs.Mesh as mesh
 use Rattle.theory.specs.Frames.{digitValue, takeDigits}
 use Rattle.theory.proofs.Frames.{digit-digitValue}
-use Rattle.frames.specs.Parts.{digitOf}
-use Rattle.frames.proofs.Takes.{takeDigits-outside, takeDigits-wrong, takeDigits-digit}
+use Rattle.frames.specs.Parts.{DigitsLeft, digitOf}
+use Rattle.frames.proofs.Takes.{takeDigits-wrong, takeDigits-digit}
 use Rattle.frames.proofs.numbers.take_number.Statement.{statement}
 use Rattle.frames.proofs.numbers.take_number.Tie as tie
 
@@ -38,11 +39,12 @@ bound-some (suc (suc (suc (suc (suc n))))) l = absurd (omega arith)
 
 record Turn (bytes : List ℕ) (digits start at left value : ℕ) : Type 0 where
   small : value < bound left
+  there : at + left ≤ length bytes
   same : takeDigits digits 0 (drop start bytes) ≡ takeDigits left value (drop at bytes)
 
 -- nothing is read at first
-begun : {bytes : List ℕ} {digits at : ℕ} → digits ≤ 4 → Turn bytes digits at at digits 0
-begun {digits} few = record { small = bound-some digits few; same = refl }
+begun : {bytes : List ℕ} {digits at : ℕ} → DigitsLeft digits at bytes → Turn bytes digits at at digits 0
+begun {digits} lent = record { small = bound-some digits (lent .few); there = lent .there; same = refl }
 
 module _ {bytes : List ℕ} {digits start at left value : ℕ} (I : Turn bytes digits start at left value) where
   -- one digit of those left
@@ -55,21 +57,21 @@ module _ {bytes : List ℕ} {digits start at left value : ℕ} (I : Turn bytes d
   fits d l e =
       omega (arith, rw (one-left l) at (I .small), digit-digitValue (mesh.at bytes at) d e .0)
 
-  -- the bytes run out
-  missing : 0 < left → length bytes ≤ at → none ≡ takeDigits digits 0 (drop start bytes)
-  missing l out = cc (one-left l, I .same, takeDigits-outside bytes at (left - 1) value out)
+  -- its byte is there
+  inside : 0 < left → at < length bytes
+  inside l = omega arith
 
   -- a byte is no digit
-  wrong : 0 < left → at < length bytes → none ≡ digitValue (mesh.at bytes at)
-      → none ≡ takeDigits digits 0 (drop start bytes)
-  wrong l inside e = cc (one-left l, I .same, takeDigits-wrong bytes at (left - 1) value inside (sym e))
+  wrong : 0 < left → none ≡ digitValue (mesh.at bytes at) → none ≡ takeDigits digits 0 (drop start bytes)
+  wrong l e = cc (one-left l, I .same, takeDigits-wrong bytes at (left - 1) value (inside l) (sym e))
 
   -- a byte is a digit
-  turned : (d : ℕ) → 0 < left → at < length bytes → some d ≡ digitValue (mesh.at bytes at)
+  turned : (d : ℕ) → 0 < left → some d ≡ digitValue (mesh.at bytes at)
       → Turn bytes digits start (at + 1) (left - 1) (16 * value + d)
-  turned d l inside e = record {
+  turned d l e = record {
     small = fits d l (sym e);
-    same = cc (one-left l, I .same, takeDigits-digit bytes at (left - 1) value d inside (sym e));
+    there = omega arith;
+    same = cc (one-left l, I .same, takeDigits-digit bytes at (left - 1) value d (inside l) (sym e));
   }
 
   -- all digits are read
@@ -87,7 +89,7 @@ abbrev μ-loop : tie.MeasureT-loop
 
 -- the turn that reads a digit
 abbrev turn : tie.After-digit-value Inv-loop μ-loop → tie.In-loop Inv-loop μ-loop
-turn t = t .before .before .before
+turn t = t .before .before
 
 -- what was read is a digit
 told : (c : tie.After-known-told Inv-loop μ-loop)
@@ -106,11 +108,8 @@ fitting c =
 loop-holds : tie.Need-loop-holds Inv-loop μ-loop
 loop-holds c = begun (c .before .pre)
 
-returns : tie.Need-returns Inv-loop μ-loop
-returns c = missing (c .before .before .loop .inv) (c .before .loop-test .taken) (c .if1 .taken)
-
 shared-slice-read-digit-value : tie.Need-shared-slice-read-digit-value Inv-loop μ-loop
-shared-slice-read-digit-value c = omega arith
+shared-slice-read-digit-value c = inside (c .before .before .loop .inv) (c .before .loop-test .taken)
 
 digit-value-requires : tie.Need-digit-value-requires Inv-loop μ-loop
 digit-value-requires c κs = search needs
@@ -121,10 +120,10 @@ enum-known-digit c = search needs
 enum-told : tie.Need-enum-told Inv-loop μ-loop
 enum-told c = search needs
 
-returns-2 : tie.Need-returns-2 Inv-loop μ-loop
-returns-2 c =
+returns : tie.Need-returns Inv-loop μ-loop
+returns c =
     let t = c .before .before in
-    wrong (turn t .before .loop .inv) (turn t .loop-test .taken) (t .before .before .if1 .left)
+    wrong (turn t .before .loop .inv) (turn t .loop-test .taken)
     (sym (ap digitOf (c .enum-told .given .1)) ∙ t .digit-value .ensures)
 
 mul-value : tie.Need-mul-value Inv-loop μ-loop
@@ -134,7 +133,9 @@ add-value : tie.Need-add-value Inv-loop μ-loop
 add-value c = record { fits = fitting c }
 
 add-at : tie.Need-add-at Inv-loop μ-loop
-add-at c = omega arith
+add-at c =
+    let l = turn (c .before .before .before) in
+    omega (arith, inside (l .before .loop .inv) (l .loop-test .taken))
 
 sub-left : tie.Need-sub-left Inv-loop μ-loop
 sub-left c = omega arith
@@ -145,10 +146,10 @@ loop-less c = omega arith
 loop-again : tie.Need-loop-again Inv-loop μ-loop
 loop-again c =
     let t = c .before .before .before in
-    turned (turn t .before .loop .inv) _ (turn t .loop-test .taken) (t .before .before .if1 .left) (told c)
+    turned (turn t .before .loop .inv) _ (turn t .loop-test .taken) (told c)
 
-returns-3 : tie.Need-returns-3 Inv-loop μ-loop
-returns-3 c = finished (c .before .loop .inv) (c .loop-test .left)
+returns-2 : tie.Need-returns-2 Inv-loop μ-loop
+returns-2 c = finished (c .before .loop .inv) (c .loop-test .left)
 
 pub take-number-spec : {M : Type 1} → statement M
 take-number-spec =
@@ -157,16 +158,15 @@ take-number-spec =
     Inv-loop
     μ-loop
     loop-holds
-    returns
     shared-slice-read-digit-value
     digit-value-requires
     enum-known-digit
     enum-told
-    returns-2
+    returns
     mul-value
     add-value
     add-at
     sub-left
     loop-less
     loop-again
-    returns-3)
+    returns-2)
