@@ -3,7 +3,7 @@ use super::digits::Digit;
 use super::digits::digit_byte;
 use super::digits::digit_value;
 ghost use mathlib.Core.Path.{_≡_};
-ghost use Prim.Native.Nat.{_+_, _<_};
+ghost use Prim.Native.Nat.{_<_};
 ghost use lib.ListN.{length, drop};
 ghost use Rattle.theory.specs.Frames.{takeDigits, takeEnd};
 ghost use Rattle.frames.specs.Parts.{TooFew, DigitsLeft, KindLeft, numberOf, stepOf, takeKind};
