@@ -17,7 +17,8 @@ use Rattle.limits.specs.Judged.{fails}
 use Rattle.limits.proofs.Judgement.{judged-passed}
 use Rattle.frames.specs.Putting.{Room, Put}
 use Rattle.frames.proofs.Appends.{answerLine-length, put-written}
-use Rattle.answer.specs.Printing.{readingOf, ReadingLent}
+use Rattle.parts.specs.Undoing.{readingIn}
+use Rattle.answer.specs.Printing.{ReadingLent}
 use Rattle.answer.specs.Answering.{longestText, TextLent, Printed, UndoneLent}
 use Rattle.answer.proofs.Rooms.{program-passed, program-refused}
 use Rattle.answer.proofs.Texts.{readingText-length}
@@ -121,7 +122,7 @@ module _ {N : ℕ} {T : List ℕ} {answer : OneAnswer} {out′ : Outputs} {text 
   -- the reading as the outputs hold it
   abbrev held : Reading
   held =
-      readingOf (answer .common .vertices) (answer .common .triangles) (out′ .mesh) N (out′ .vertexMap) (triangles T)
+      readingIn N (triangles T) (answer .common .vertices) (answer .common .triangles) (out′ .mesh) (out′ .vertexMap)
       (out′ .triangleMap)
 
   module _ (A : Accepted N T answer out′) where

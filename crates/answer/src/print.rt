@@ -4,7 +4,8 @@ use frames::text::put_map;
 use frames::writing::put_frames;
 ghost use Rattle.theory.specs.Program.{readingText};
 ghost use Rattle.frames.specs.Putting.{Put};
-ghost use Rattle.answer.specs.Printing.{readingOf, ReadingLent};
+ghost use Rattle.parts.specs.Undoing.{readingIn};
+ghost use Rattle.answer.specs.Printing.{ReadingLent};
 
 // Prints a reading in a role: the coarse mesh has so many kept vertices and centres, and its corners are the first of
 // `mesh`; the two maps are the first entries of `map` and `tiles`, one for each vertex and each triangle of the input.
@@ -20,8 +21,8 @@ pub(crate) fn print_reading(
     tiles: &[u16],
 ) -> usize
     requires { ⌜ ReadingLent role kept centres (now mesh) vertices (now map) triangles (now tiles) (now text) ⌝ }
-    ensures { λ r. ⌜ Put (readingText role (readingOf kept centres (now (mesh .entry)) vertices (now (map .entry))
-        triangles (now (tiles .entry)))) (now (text .entry)) 0 r (now (text .exit)) ⌝ }
+    ensures { λ r. ⌜ Put (readingText role (readingIn vertices triangles kept centres (now (mesh .entry))
+        (now (map .entry)) (now (tiles .entry)))) (now (text .entry)) 0 r (now (text .exit)) ⌝ }
 {
     let second = put_answer(text, 0, 0, role, 0);
     let third = put_frames(text, second, kept, mesh, centres);

@@ -6,7 +6,7 @@ use Rattle.theory.specs.Reading.{Reading}
 use Rattle.theory.specs.Frames.{frames}
 use Rattle.theory.specs.Program.{mapLines, readingText}
 use Rattle.frames.proofs.Appends.{Left, left-all, left-room, left-more, left-none}
-use Rattle.answer.specs.Printing.{readingOf}
+use Rattle.parts.specs.Undoing.{readingIn}
 use Rattle.answer.proofs.Texts.{readingText-parts}
 use Rattle.answer.proofs.print.print_reading.Statement.{statement}
 use Rattle.answer.proofs.print.print_reading.Tie as tie
@@ -17,7 +17,7 @@ use Rattle.answer.proofs.print.print_reading.Tie as tie
 abbrev lent : tie.Start → Reading
 lent s =
     let a = s .args in
-    readingOf (a .kept) (a .centres) (a .mesh .now) (a .vertices) (a .map .now) (a .triangles) (a .tiles .now)
+    readingIn (a .vertices) (a .triangles) (a .kept) (a .centres) (a .mesh .now) (a .map .now) (a .tiles .now)
 
 abbrev Still : tie.Start → List (List ℕ) → ℕ → List ℕ → Type 0
 Still s = Left (readingText (s .args .role) (lent s)) (s .args .text .now) 0
