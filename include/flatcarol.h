@@ -119,9 +119,9 @@ static inline const char *flatcarol_refusal_text(uint64_t refusal)
 /* ---- room for work */
 
 /* How many work buffers each call is lent. */
-#define FLATCAROL_SPLIT_BUFFERS 7
-#define FLATCAROL_UNDO_ONE_BUFFERS 11
-#define FLATCAROL_UNDO_SEVERAL_BUFFERS 12
+#define FLATCAROL_SPLIT_BUFFERS 5
+#define FLATCAROL_UNDO_ONE_BUFFERS 9
+#define FLATCAROL_UNDO_SEVERAL_BUFFERS 10
 
 /* The entries that each work buffer of a call needs: V + 3F. A mesh above the limits is refused 4 whatever is lent, so
    it needs no more than one at the limits, and the sum cannot overflow. */
@@ -133,7 +133,7 @@ static inline size_t flatcarol_work_each(uint64_t vertices, uint64_t triangles)
 }
 
 /* The entries that all work buffers of a call need together: what to allocate for the calls that end in _in. At most
-   983,028 entries, 1,920 KiB. */
+   819,190 entries, 1,600 KiB. */
 static inline size_t flatcarol_split_work(uint64_t vertices, uint64_t triangles)
 {
     return FLATCAROL_SPLIT_BUFFERS * flatcarol_work_each(vertices, triangles);
@@ -160,9 +160,7 @@ flatcarol_answer flatcarol_split(
     uint16_t *work2, size_t work2_len,
     uint16_t *work3, size_t work3_len,
     uint16_t *work4, size_t work4_len,
-    uint16_t *work5, size_t work5_len,
-    uint16_t *work6, size_t work6_len,
-    uint16_t *work7, size_t work7_len);
+    uint16_t *work5, size_t work5_len);
 
 /* Undoes one split, in the role asked of triangle 0 (0 to 3) or in the least role that has a reading (4). The coarse
    mesh goes to the first entries of mesh, which needs 3 times (F divided by 4, rounded down); to those of the maps,
@@ -183,9 +181,7 @@ flatcarol_one_answer flatcarol_undo_one(
     uint16_t *work6, size_t work6_len,
     uint16_t *work7, size_t work7_len,
     uint16_t *work8, size_t work8_len,
-    uint16_t *work9, size_t work9_len,
-    uint16_t *work10, size_t work10_len,
-    uint16_t *work11, size_t work11_len);
+    uint16_t *work9, size_t work9_len);
 
 /* Undoes up to so many splits as asked, 0 to 7, each in the least role that has a reading. It stops where no role has
    one: that is no refusal. The mesh that is left goes to the first entries of out, which needs 3F. Refusals 1 to
@@ -204,9 +200,7 @@ flatcarol_several_answer flatcarol_undo_several(
     uint16_t *work7, size_t work7_len,
     uint16_t *work8, size_t work8_len,
     uint16_t *work9, size_t work9_len,
-    uint16_t *work10, size_t work10_len,
-    uint16_t *work11, size_t work11_len,
-    uint16_t *work12, size_t work12_len);
+    uint16_t *work10, size_t work10_len);
 
 /* Reads a mesh from its frames. The corners, which are not judged, go to the first entries of out, which needs 3F with
    the F of the first line. Refusals 12 for the first line, then 4 and 5, then 12 for later lines. */
@@ -238,7 +232,7 @@ static inline flatcarol_answer flatcarol_split_in(
     const size_t whole = work ? work_len : 0;
     /* The last buffer gets what the division leaves. No product is more than the block's own length. */
     const size_t each = whole / FLATCAROL_SPLIT_BUFFERS;
-    const size_t last = whole - 6 * each;
+    const size_t last = whole - 4 * each;
     uint16_t *const first = work ? work : none;
     return flatcarol_split(
         vertices,
@@ -248,9 +242,7 @@ static inline flatcarol_answer flatcarol_split_in(
         first + each, each,
         first + 2 * each, each,
         first + 3 * each, each,
-        first + 4 * each, each,
-        first + 5 * each, each,
-        first + 6 * each, last);
+        first + 4 * each, last);
 }
 
 static inline flatcarol_one_answer flatcarol_undo_one_in(
@@ -265,7 +257,7 @@ static inline flatcarol_one_answer flatcarol_undo_one_in(
     uint16_t none[1] = {0};
     const size_t whole = work ? work_len : 0;
     const size_t each = whole / FLATCAROL_UNDO_ONE_BUFFERS;
-    const size_t last = whole - 10 * each;
+    const size_t last = whole - 8 * each;
     uint16_t *const first = work ? work : none;
     return flatcarol_undo_one(
         vertices,
@@ -282,9 +274,7 @@ static inline flatcarol_one_answer flatcarol_undo_one_in(
         first + 5 * each, each,
         first + 6 * each, each,
         first + 7 * each, each,
-        first + 8 * each, each,
-        first + 9 * each, each,
-        first + 10 * each, last);
+        first + 8 * each, last);
 }
 
 static inline flatcarol_several_answer flatcarol_undo_several_in(
@@ -297,7 +287,7 @@ static inline flatcarol_several_answer flatcarol_undo_several_in(
     uint16_t none[1] = {0};
     const size_t whole = work ? work_len : 0;
     const size_t each = whole / FLATCAROL_UNDO_SEVERAL_BUFFERS;
-    const size_t last = whole - 11 * each;
+    const size_t last = whole - 9 * each;
     uint16_t *const first = work ? work : none;
     return flatcarol_undo_several(
         vertices,
@@ -313,9 +303,7 @@ static inline flatcarol_several_answer flatcarol_undo_several_in(
         first + 6 * each, each,
         first + 7 * each, each,
         first + 8 * each, each,
-        first + 9 * each, each,
-        first + 10 * each, each,
-        first + 11 * each, last);
+        first + 9 * each, last);
 }
 
 #ifdef __cplusplus

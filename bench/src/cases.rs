@@ -1,10 +1,10 @@
 // What is measured: each call on each of its meshes, by all versions on the same buffers, so that none gains by where these lie;
-// and undo several beside undo one.
+// undo several beside undo one; and meshes shuffled beside the same in order.
 use std::hint::black_box;
 
 use crate::hashed;
 use crate::library::{self, Answer, OneAnswer, OneOutputs, OneWork, SeveralAnswer, SeveralWork, SplitWork};
-use crate::meshes::{self, frames, Mesh, Several, SIZES};
+use crate::meshes::{self, frames, Mesh, Several, MADE_IN_ORDER, SIZES};
 use crate::plain;
 
 type Split = fn(u64, &[u16], &mut [u16], &mut SplitWork) -> Answer;
@@ -69,17 +69,33 @@ pub fn of_size(size: usize) -> Vec<Case> {
     splits.chain(undo_ones).chain(undo_severals).chain(reads).chain(writes).collect()
 }
 
-// The library's undo several and its undo one of the same meshes, as if these were two versions, each with the number of levels.
-// These are cases apart, since a version that is run beside another call of its own would find its code in the caches.
+// The library's undo several and its undo one of the same meshes, each with the number of levels.
 pub fn several_and_one(size: usize) -> Vec<(usize, Case)> {
     let both = |Several { mesh, levels, .. }: Several| {
         let one = undo_one(mesh.clone());
-        let several = undo_several(mesh);
-        let mut runs = [several.run, one.run];
-        let run = Box::new(move |call: usize| runs[call](LIBRARY));
-        (levels, Case { versions: &[0, 1], run, ..several })
+        (levels, beside(undo_several(mesh), one))
     };
     meshes::to_undo_several(size).into_iter().map(both).collect()
+}
+
+// The library's calls on meshes that are made in an order, shuffled and as they are made.
+pub fn shuffled_and_in_order(size: usize) -> Vec<Case> {
+    let is_compared = |case: &Case| [SPLIT, UNDO_ONE, UNDO_SEVERAL].contains(&case.call) && MADE_IN_ORDER.contains(&case.mesh);
+    // Each mesh in order and behind it shuffled.
+    let mut cases = of_size(size).into_iter().filter(is_compared);
+    let both = || {
+        let in_order = cases.next()?;
+        Some(beside(cases.next()?, in_order))
+    };
+    std::iter::from_fn(both).collect()
+}
+
+// What the library does in two cases, as if these were two versions. These are cases apart, since a version that is run beside
+// another call of its own would find its code in the caches.
+fn beside(one: Case, other: Case) -> Case {
+    let mut runs = [one.run, other.run];
+    let run = Box::new(move |which: usize| runs[which](LIBRARY));
+    Case { versions: &[0, 1], run, ..one }
 }
 
 fn split(mesh: Mesh) -> Case {

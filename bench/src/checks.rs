@@ -94,21 +94,21 @@ fn check_other_refusals() {
 
         let (mut out, mut work) = split_buffers(3, &[0, 1, 2]);
         assert_eq!(SPLITS[version](3, &[0, 1, 2], &mut out[..11], &mut work).refusal, 5, "{name} on a short output");
-        work[6].pop();
+        work.last_mut().unwrap().pop();
         let refusal = if version == HASHED { 0 } else { 5 };
         assert_eq!(SPLITS[version](3, &[0, 1, 2], &mut out, &mut work).refusal, refusal, "{name} on a short work buffer");
 
         // The last of these are work buffers.
         for short in if version == HASHED { 0..3 } else { 0..4 } {
             let (mut out, mut work) = undo_one_buffers(vertices, &list);
-            [&mut out.mesh, &mut out.vertex_map, &mut out.triangle_map, &mut work[10]][short].pop();
+            [&mut out.mesh, &mut out.vertex_map, &mut out.triangle_map, work.last_mut().unwrap()][short].pop();
             let answer = UNDO_ONES[version](vertices as u64, &list, LEAST, &mut out, &mut work);
             assert_eq!(answer.refusal, 5, "{name}: buffer {short} of undo one is short");
         }
 
         for short in if version == HASHED { 0..1 } else { 0..2 } {
             let (mut out, mut work) = undo_several_buffers(vertices, &list);
-            [&mut out, &mut work[11]][short].pop();
+            [&mut out, work.last_mut().unwrap()][short].pop();
             let answer = UNDO_SEVERALS[version](vertices as u64, &list, MOST_LEVELS, &mut out, &mut work);
             assert_eq!(answer.refusal, 5, "{name}: buffer {short} of undo several is short");
         }

@@ -10,6 +10,10 @@ pub const MOST_TO_SPLIT: usize = MOST / 4;
 pub const IN_ORDER: &str = "in order";
 const SHUFFLED: &str = "shuffled";
 
+// The meshes whose neighbours are near in the list as it is made: all that a call reads, but for those made at random and those
+// that it refuses.
+pub const MADE_IN_ORDER: [&str; 4] = ["torus", "triangle", "fan", "book"];
+
 #[derive(Clone)]
 pub struct Mesh {
     pub name: &'static str,
@@ -25,18 +29,20 @@ pub struct Mesh {
 // The meshes to split.
 pub fn to_split(size: usize) -> Vec<Mesh> {
     let mut random = Random::new();
-    let coarse = size / 4;
-    let meshes = [torus(coarse), fan(coarse), book(coarse), glued(coarse, &mut random)];
-    in_both_orders(meshes, &mut random)
+    in_both_orders(of_each_kind(size / 4, &mut random), &mut random)
 }
 
 // The meshes to undo: splittings, and those that no role reads.
 pub fn to_undo(size: usize) -> Vec<Mesh> {
     let mut random = Random::new();
-    let coarse = size / 4;
-    let depth = coarse.ilog(4) as usize;
-    let meshes = [torus(coarse), split_times(&triangle(), depth), fan(coarse), book(coarse), glued(coarse, &mut random)];
-    in_both_orders(meshes.iter().map(split_of).chain([odd_torus(size)]).chain(refused(size)), &mut random)
+    let splittings = of_each_kind(size / 4, &mut random).map(|mesh| split_of(&mesh));
+    in_both_orders(splittings.into_iter().chain([odd_torus(size)]).chain(refused(size)), &mut random)
+}
+
+// A mesh of each kind with so many triangles, a power of four.
+fn of_each_kind(triangles: usize, random: &mut Random) -> [Mesh; 5] {
+    let depth = triangles.ilog(4) as usize;
+    [torus(triangles), split_times(&triangle(), depth), fan(triangles), book(triangles), glued(triangles, random)]
 }
 
 // A mesh to undo several levels of.
@@ -96,10 +102,11 @@ fn torus(triangles: usize) -> Mesh {
     torus_of("torus", wide, high)
 }
 
-// One with odd sides, a row and a column smaller. Each role reaches all tiles, four times as many as it may.
+// One with an odd side, a column smaller. Each role reaches half of the tiles, twice as many as it may. With two odd sides it
+// would reach all, but the triangles would be no multiple of four, and no role would be tried.
 fn odd_torus(triangles: usize) -> Mesh {
     let (wide, high) = sides(triangles);
-    torus_of("odd", wide - 1, high - 1)
+    torus_of("odd", wide - 1, high)
 }
 
 // Of a torus of so many triangles that is twice as wide as high.
@@ -115,7 +122,7 @@ fn torus_of(name: &'static str, wide: usize, high: usize) -> Mesh {
     mesh(name, wide * high, quads.flat_map(|[a, b, c, d]| [[a, b, c], [a, c, d]]).collect())
 }
 
-// All triangles at one vertex, so that in order one chain of the edge table, that of the lesser end 0, has two half-edges of each.
+// All triangles at one vertex, so that in order one chain of half-edges, that of the lesser end 0, has two of each.
 fn fan(triangles: usize) -> Mesh {
     let rim = |k: usize| 1 + k % triangles;
     mesh("fan", 1 + triangles, (0..triangles).map(|k| [0, rim(k), rim(k + 1)]).collect())

@@ -6,11 +6,12 @@ use crate::measure::{measure, median, Row, REPETITIONS, ROUNDS};
 use crate::meshes::{self, Mesh, IN_ORDER, MOST, SIZES};
 use crate::others::{self, Others, Outcome};
 
-// On the ratio of the library to the plain version, on the growth of the library's time per triangle, and on undo several as a
-// multiple of undo one.
+// On the ratio of the library to the plain version, on the growth of the library's time per triangle, on undo several as a
+// multiple of undo one, and on a shuffled mesh as a multiple of the same in order.
 const MOST_RATIO: f64 = 1.15;
 const MOST_GROWTH: f64 = 2.5;
 const MOST_QUOTIENT: f64 = 1.6;
+const MOST_SHUFFLED: f64 = 1.5;
 
 const LABELS: [&str; 3] = ["mesh", "order", "triangles"];
 
@@ -24,6 +25,7 @@ pub fn print_all(folder: Option<&Path>) {
     calls.iter().for_each(|call| print_call(call));
     print_others(calls[0], &Others::below(folder));
     print_several_and_one();
+    print_shuffled_and_in_order();
     print_worst(&calls);
 }
 
@@ -86,6 +88,17 @@ fn print_several_and_one() {
     }
     println!();
     print_bound("undo several / undo one", rows.iter().filter_map(|row| row.ratio(0, 1)), MOST_QUOTIENT);
+}
+
+fn print_shuffled_and_in_order() {
+    print_head("shuffled beside in order", ["call", "mesh", "triangles", "shuffled", "in order", "shuffled / in order"]);
+    let rows = measure(cases::shuffled_and_in_order(MOST));
+    for row in &rows {
+        let cells = [row.time(0), row.time(1), row.ratio(0, 1)].map(number);
+        print_row([row.call.into(), row.mesh.into(), thousands(row.triangles)].into_iter().chain(cells));
+    }
+    println!();
+    print_bound("shuffled / in order", rows.iter().filter_map(|row| row.ratio(0, 1)), MOST_SHUFFLED);
 }
 
 // For each call the row that is worst by each measure, and the bounds.

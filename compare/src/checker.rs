@@ -2,7 +2,7 @@
 // entry of every lent buffer, and the input.
 use std::fmt::Debug;
 
-use flatcarol::raw::{Answer, OneAnswer, OneOutputs, SeveralAnswer};
+use flatcarol::raw::{Answer, OneAnswer, OneOutputs, SeveralAnswer, SEVERAL_WORK};
 use reference::{OneRoom, Search};
 
 use crate::calls::Calls;
@@ -25,7 +25,8 @@ const IN_FULL: usize = 600;
 const MOST_BYTES: usize = 2 * MOST;
 
 const OUTPUTS: usize = 3;
-const WORK: usize = 12;
+// Undo several has the most work buffers.
+const WORK: usize = SEVERAL_WORK;
 
 pub struct Checker<'a> {
     calls: &'a dyn Calls,

@@ -47,14 +47,14 @@ static void must_be_accepted(uint64_t refusal, uint64_t place)
 
 /* ---- one split and back
 
-   For meshes whose size is known beforehand, arrays will do. The block of work is cut by the call: here 7 buffers of
-   V + 3F = 6 entries for split, and 11 of 18 for undo one. */
+   For meshes whose size is known beforehand, arrays will do. The block of work is cut by the call: here 5 buffers of
+   V + 3F = 6 entries for split, and 9 of 18 for undo one. */
 
 static void one_split_and_back(void)
 {
     const uint16_t triangle[3] = {0, 1, 2};
     uint16_t fine[12];
-    uint16_t work[11 * 18];
+    uint16_t work[9 * 18];
 
     printf("one triangle, split\n");
     const flatcarol_answer split = flatcarol_split_in(3, triangle, 3, fine, 12, work, flatcarol_split_work(3, 1));
@@ -155,9 +155,9 @@ static void frames_read_and_written(void)
     uint16_t coarse[3];
     uint16_t vertex_map[6];
     uint16_t triangle_map[4];
-    uint16_t work[11 * 18];
+    uint16_t work[9 * 18];
     const flatcarol_one_answer undone = flatcarol_undo_one_in(
-        read.vertices, fine, 12, FLATCAROL_ANY_ROLE, coarse, 3, vertex_map, 6, triangle_map, 4, work, 11 * 18);
+        read.vertices, fine, 12, FLATCAROL_ANY_ROLE, coarse, 3, vertex_map, 6, triangle_map, 4, work, 9 * 18);
     must_be_accepted(undone.refusal, undone.place);
     printf("undone in role %" PRIu64 "\n", undone.role);
     print_triangles(coarse, undone.triangles);
@@ -186,19 +186,19 @@ static void refusals(void)
 {
     const uint16_t touching[6] = {0, 1, 2, 0, 3, 4};
     uint16_t out[24];
-    uint16_t work[7 * 11];
+    uint16_t work[5 * 11];
     flatcarol_answer answer;
 
     printf("two triangles that touch at a point\n");
-    answer = flatcarol_split_in(5, touching, 6, out, 24, work, 7 * 11);
+    answer = flatcarol_split_in(5, touching, 6, out, 24, work, 5 * 11);
     print_refusal(answer.refusal, answer.place);
 
     printf("a block of work that is one entry too short\n");
-    answer = flatcarol_split_in(5, touching, 6, out, 24, work, 7 * 11 - 1);
+    answer = flatcarol_split_in(5, touching, 6, out, 24, work, 5 * 11 - 1);
     print_refusal(answer.refusal, answer.place);
 
     printf("a number of vertices that cannot be\n");
-    answer = flatcarol_split_in(UINT64_MAX, touching, 6, out, 24, work, 7 * 11);
+    answer = flatcarol_split_in(UINT64_MAX, touching, 6, out, 24, work, 5 * 11);
     print_refusal(answer.refusal, answer.place);
 }
 

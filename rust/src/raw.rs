@@ -47,9 +47,9 @@ pub struct OneOutputs<'a> {
 /// The work buffers of a call.
 pub type Work<'a, const N: usize> = [&'a mut [u16]; N];
 
-pub const SPLIT_WORK: usize = 7;
-pub const ONE_WORK: usize = 11;
-pub const SEVERAL_WORK: usize = 12;
+pub const SPLIT_WORK: usize = 5;
+pub const ONE_WORK: usize = 9;
+pub const SEVERAL_WORK: usize = 10;
 
 // Declares C functions. Behind the other arguments of each stand the buffers that it writes and the type of their entries: each is
 // an address and a length in entries.
@@ -73,11 +73,11 @@ macro_rules! lend {
 // of its own.
 declare! {
     flatcarol_split(answer: *mut Answer, vertices: u64, list: *const u16, list_len: usize;
-        u16: out, work1, work2, work3, work4, work5, work6, work7);
+        u16: out, work1, work2, work3, work4, work5);
     flatcarol_undo_one(answer: *mut OneAnswer, vertices: u64, list: *const u16, list_len: usize, asked: u64;
-        u16: mesh, vertex_map, triangle_map, work1, work2, work3, work4, work5, work6, work7, work8, work9, work10, work11);
+        u16: mesh, vertex_map, triangle_map, work1, work2, work3, work4, work5, work6, work7, work8, work9);
     flatcarol_undo_several(answer: *mut SeveralAnswer, vertices: u64, list: *const u16, list_len: usize, asked: u64;
-        u16: out, work1, work2, work3, work4, work5, work6, work7, work8, work9, work10, work11, work12);
+        u16: out, work1, work2, work3, work4, work5, work6, work7, work8, work9, work10);
     flatcarol_read_frames(answer: *mut Answer, bytes: *const u8, bytes_len: usize; u16: out);
     flatcarol_write_frames(answer: *mut Answer, vertices: u64, list: *const u16, list_len: usize; u8: out);
 }
@@ -85,10 +85,10 @@ declare! {
 /// Splits a mesh of `vertices` vertices, whose triangles are `list`.
 pub fn split(vertices: u64, list: &[u16], out: &mut [u16], work: Work<SPLIT_WORK>) -> Answer {
     let mut answer = Answer::default();
-    let [w1, w2, w3, w4, w5, w6, w7] = work;
+    let [w1, w2, w3, w4, w5] = work;
     // SAFETY: each pointer and length are those of a slice, and the slices that are written overlap no other, since they are
     // borrowed mutably. The call asks for nothing else: it takes every input.
-    unsafe { lend!(flatcarol_split(&mut answer, vertices, list.as_ptr(), list.len(); out, w1, w2, w3, w4, w5, w6, w7)) };
+    unsafe { lend!(flatcarol_split(&mut answer, vertices, list.as_ptr(), list.len(); out, w1, w2, w3, w4, w5)) };
     answer
 }
 
@@ -96,11 +96,11 @@ pub fn split(vertices: u64, list: &[u16], out: &mut [u16], work: Work<SPLIT_WORK
 pub fn undo_one(vertices: u64, list: &[u16], asked: u64, out: OneOutputs, work: Work<ONE_WORK>) -> OneAnswer {
     let mut answer = OneAnswer::default();
     let OneOutputs { mesh, vertex_map, triangle_map } = out;
-    let [w1, w2, w3, w4, w5, w6, w7, w8, w9, w10, w11] = work;
+    let [w1, w2, w3, w4, w5, w6, w7, w8, w9] = work;
     // SAFETY: as in `split`.
     unsafe {
         lend!(flatcarol_undo_one(&mut answer, vertices, list.as_ptr(), list.len(), asked;
-            mesh, vertex_map, triangle_map, w1, w2, w3, w4, w5, w6, w7, w8, w9, w10, w11))
+            mesh, vertex_map, triangle_map, w1, w2, w3, w4, w5, w6, w7, w8, w9))
     };
     answer
 }
@@ -108,11 +108,11 @@ pub fn undo_one(vertices: u64, list: &[u16], asked: u64, out: OneOutputs, work: 
 /// Undoes up to `asked` splits, each in the least role that has a reading.
 pub fn undo_several(vertices: u64, list: &[u16], asked: u64, out: &mut [u16], work: Work<SEVERAL_WORK>) -> SeveralAnswer {
     let mut answer = SeveralAnswer::default();
-    let [w1, w2, w3, w4, w5, w6, w7, w8, w9, w10, w11, w12] = work;
+    let [w1, w2, w3, w4, w5, w6, w7, w8, w9, w10] = work;
     // SAFETY: as in `split`.
     unsafe {
         lend!(flatcarol_undo_several(&mut answer, vertices, list.as_ptr(), list.len(), asked;
-            out, w1, w2, w3, w4, w5, w6, w7, w8, w9, w10, w11, w12))
+            out, w1, w2, w3, w4, w5, w6, w7, w8, w9, w10))
     };
     answer
 }

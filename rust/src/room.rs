@@ -5,8 +5,8 @@ use std::mem;
 
 /// The work buffers of the calls, in one allocation that is kept between calls.
 ///
-/// A room serves any call and any mesh. It grows when a mesh needs more than it has, to at most 2 MB (983,028 entries of 16 bits for
-/// the largest mesh), and never shrinks: drop it to free the memory. Keep one for each thread that makes calls.
+/// A room serves any call and any mesh. It grows when a mesh needs more than it has, to at most 1,600 KiB (819,190 entries of 16
+/// bits for the largest mesh), and never shrinks: drop it to free the memory. Keep one for each thread that makes calls.
 ///
 /// ```
 /// use flatcarol::{split, Room};

@@ -97,29 +97,28 @@ static void expect_work(const lent *buffers, size_t count, size_t which)
 
 static void try_split(size_t shorter)
 {
-    const size_t lengths[8] = {12, 6, 6, 6, 6, 6, 6, 6};
-    lent b[8];
-    lend_all(b, lengths, 8, shorter);
+    const size_t lengths[6] = {12, 6, 6, 6, 6, 6};
+    lent b[6];
+    lend_all(b, lengths, 6, shorter);
     const flatcarol_answer a = flatcarol_split(
         3, triangle, 3, b[0].entries, b[0].len, b[1].entries, b[1].len, b[2].entries, b[2].len, b[3].entries, b[3].len,
-        b[4].entries, b[4].len, b[5].entries, b[5].len, b[6].entries, b[6].len, b[7].entries, b[7].len);
+        b[4].entries, b[4].len, b[5].entries, b[5].len);
     const int refused = shorter != 0;
     expect(a.refusal == (refused ? 5u : 0u) && a.place == 0, "split is refused 5 or accepted", shorter);
     expect(a.vertices == (refused ? 0u : 6u) && a.triangles == (refused ? 0u : 4u), "split's counts", shorter);
     expect_output(&b[0], triangle_split, 12, a.refusal, shorter);
-    expect_work(b + 1, 7, shorter);
+    expect_work(b + 1, 5, shorter);
 }
 
 static void try_undo_one(size_t shorter)
 {
-    const size_t lengths[14] = {3, 6, 4, 18, 18, 18, 18, 18, 18, 18, 18, 18, 18, 18};
-    lent b[14];
-    lend_all(b, lengths, 14, shorter);
+    const size_t lengths[12] = {3, 6, 4, 18, 18, 18, 18, 18, 18, 18, 18, 18};
+    lent b[12];
+    lend_all(b, lengths, 12, shorter);
     const flatcarol_one_answer a = flatcarol_undo_one(
         6, sample, 12, FLATCAROL_ANY_ROLE, b[0].entries, b[0].len, b[1].entries, b[1].len, b[2].entries, b[2].len,
         b[3].entries, b[3].len, b[4].entries, b[4].len, b[5].entries, b[5].len, b[6].entries, b[6].len, b[7].entries,
-        b[7].len, b[8].entries, b[8].len, b[9].entries, b[9].len, b[10].entries, b[10].len, b[11].entries, b[11].len,
-        b[12].entries, b[12].len, b[13].entries, b[13].len);
+        b[7].len, b[8].entries, b[8].len, b[9].entries, b[9].len, b[10].entries, b[10].len, b[11].entries, b[11].len);
     const int refused = shorter != 0;
     expect(a.refusal == (refused ? 5u : 0u) && a.place == 0, "undo one is refused 5 or accepted", shorter);
     expect(a.vertices == (refused ? 0u : 3u) && a.triangles == (refused ? 0u : 1u), "undo one's counts", shorter);
@@ -127,19 +126,18 @@ static void try_undo_one(size_t shorter)
     expect_output(&b[0], sample_mesh, 3, a.refusal, shorter);
     expect_output(&b[1], sample_vertices, 6, a.refusal, shorter);
     expect_output(&b[2], sample_triangles, 4, a.refusal, shorter);
-    expect_work(b + 3, 11, shorter);
+    expect_work(b + 3, 9, shorter);
 }
 
 static void try_undo_several(size_t shorter)
 {
-    const size_t lengths[13] = {12, 18, 18, 18, 18, 18, 18, 18, 18, 18, 18, 18, 18};
-    lent b[13];
-    lend_all(b, lengths, 13, shorter);
+    const size_t lengths[11] = {12, 18, 18, 18, 18, 18, 18, 18, 18, 18, 18};
+    lent b[11];
+    lend_all(b, lengths, 11, shorter);
     const flatcarol_several_answer a = flatcarol_undo_several(
         6, sample, 12, 7, b[0].entries, b[0].len, b[1].entries, b[1].len, b[2].entries, b[2].len, b[3].entries,
         b[3].len, b[4].entries, b[4].len, b[5].entries, b[5].len, b[6].entries, b[6].len, b[7].entries, b[7].len,
-        b[8].entries, b[8].len, b[9].entries, b[9].len, b[10].entries, b[10].len, b[11].entries, b[11].len,
-        b[12].entries, b[12].len);
+        b[8].entries, b[8].len, b[9].entries, b[9].len, b[10].entries, b[10].len);
     const uint8_t roles[2][7] = {{1, 0, 0, 0, 0, 0, 0}, {0, 0, 0, 0, 0, 0, 0}};
     const int refused = shorter != 0;
     expect(a.refusal == (refused ? 5u : 0u) && a.place == 0, "undo several is refused 5 or accepted", shorter);
@@ -147,7 +145,7 @@ static void try_undo_several(size_t shorter)
     expect(a.levels == (refused ? 0u : 1u), "undo several's levels", shorter);
     expect(memcmp(a.roles, roles[refused], 7) == 0, "undo several's roles", shorter);
     expect_output(&b[0], sample_mesh, 3, a.refusal, shorter);
-    expect_work(b + 1, 12, shorter);
+    expect_work(b + 1, 10, shorter);
 }
 
 static void try_frames(void)
@@ -183,7 +181,7 @@ static void try_frames(void)
 static void try_last_role(void)
 {
     static uint16_t lists[2][3 * FLATCAROL_MOST_TRIANGLES];
-    static uint16_t work[12 * (FLATCAROL_MOST_VERTICES + 3 * FLATCAROL_MOST_TRIANGLES)];
+    static uint16_t work[10 * (FLATCAROL_MOST_VERTICES + 3 * FLATCAROL_MOST_TRIANGLES)];
     const uint8_t roles[7] = {0, 0, 0, 0, 0, 0, 1};
     const size_t most = sizeof work / sizeof work[0];
     uint64_t vertices = 6;
@@ -210,21 +208,21 @@ static void try_lengths(void)
 {
     expect(flatcarol_work_each(0, 0) == 0, "V + 3F", 0);
     expect(flatcarol_work_each(6, 4) == 18, "V + 3F", 1);
-    expect(flatcarol_split_work(6, 4) == 7 * 18, "seven for split", 0);
-    expect(flatcarol_undo_one_work(6, 4) == 11 * 18, "eleven for undo one", 0);
-    expect(flatcarol_undo_several_work(6, 4) == 12 * 18, "twelve for undo several", 0);
+    expect(flatcarol_split_work(6, 4) == 5 * 18, "five for split", 0);
+    expect(flatcarol_undo_one_work(6, 4) == 9 * 18, "nine for undo one", 0);
+    expect(flatcarol_undo_several_work(6, 4) == 10 * 18, "ten for undo several", 0);
 
     /* The largest meshes of docs/ROOM.md. */
-    expect(flatcarol_split_work(32767, 4096) == 315385, "the most for split", 0);
-    expect(flatcarol_undo_one_work(32767, 16384) == 901109, "the most for undo one", 0);
-    expect(flatcarol_undo_several_work(32767, 16384) == 983028, "the most for undo several", 0);
+    expect(flatcarol_split_work(32767, 4096) == 225275, "the most for split", 0);
+    expect(flatcarol_undo_one_work(32767, 16384) == 737271, "the most for undo one", 0);
+    expect(flatcarol_undo_several_work(32767, 16384) == 819190, "the most for undo several", 0);
 
     /* Above the limits nothing is added, and nothing overflows. */
     const uint64_t absurd[5] = {32768, 65536, UINT64_MAX / 3, UINT64_MAX / 2 + 1, UINT64_MAX};
     for (size_t i = 0; i < 5; i++) {
         expect(flatcarol_work_each(absurd[i], 0) == 32767, "so many vertices", i);
         expect(flatcarol_work_each(0, absurd[i]) == 49152, "so many triangles", i);
-        expect(flatcarol_undo_several_work(absurd[i], absurd[i]) == 983028, "so many of both", i);
+        expect(flatcarol_undo_several_work(absurd[i], absurd[i]) == 819190, "so many of both", i);
     }
 }
 
@@ -233,7 +231,7 @@ static void try_lengths(void)
 typedef enum call { SPLIT, UNDO_ONE, UNDO_SEVERAL } call;
 
 static const call calls[3] = {SPLIT, UNDO_ONE, UNDO_SEVERAL};
-static const size_t needed[3] = {7 * 18, 11 * 18, 12 * 18};
+static const size_t needed[3] = {5 * 18, 9 * 18, 10 * 18};
 
 /* Makes one of the calls on a mesh with enough room for the output, in a block. Answers the refusal. */
 static uint64_t refusal_in(
@@ -274,42 +272,42 @@ static void try_blocks(void)
 
 static void try_null(void)
 {
-    uint16_t work[12 * 18];
+    uint16_t work[10 * 18];
     for (size_t i = 0; i < 3; i++) {
         expect(refusal_in(calls[i], 6, sample, 12, 1, NULL, 0) == 5, "no block", i);
         expect(refusal_in(calls[i], 6, sample, 12, 1, NULL, SIZE_MAX) == 5, "no block, where malloc failed", i);
-        expect(refusal_in(calls[i], 0, NULL, 0, 1, work, 12 * 18) == 3, "no list", i);
-        expect(refusal_in(calls[i], 0, NULL, 12, 1, work, 12 * 18) == 3, "no list, with a length", i);
+        expect(refusal_in(calls[i], 0, NULL, 0, 1, work, 10 * 18) == 3, "no list", i);
+        expect(refusal_in(calls[i], 0, NULL, 12, 1, work, 10 * 18) == 3, "no list, with a length", i);
         expect(refusal_in(calls[i], 0, NULL, 0, 1, NULL, 0) == 3, "no list and no block", i);
     }
-    expect(flatcarol_split_in(6, sample, 12, NULL, 48, work, 12 * 18).refusal == 5, "no output", 0);
-    expect(flatcarol_undo_several_in(6, sample, 12, 1, NULL, 12, work, 12 * 18).refusal == 5, "no output", 1);
+    expect(flatcarol_split_in(6, sample, 12, NULL, 48, work, 10 * 18).refusal == 5, "no output", 0);
+    expect(flatcarol_undo_several_in(6, sample, 12, 1, NULL, 12, work, 10 * 18).refusal == 5, "no output", 1);
     uint16_t mesh[3];
     uint16_t map[6];
     uint16_t other[4];
-    flatcarol_one_answer one = flatcarol_undo_one_in(6, sample, 12, 1, NULL, 3, map, 6, other, 4, work, 12 * 18);
+    flatcarol_one_answer one = flatcarol_undo_one_in(6, sample, 12, 1, NULL, 3, map, 6, other, 4, work, 10 * 18);
     expect(one.refusal == 5, "no mesh", 0);
-    one = flatcarol_undo_one_in(6, sample, 12, 1, mesh, 3, NULL, 6, other, 4, work, 12 * 18);
+    one = flatcarol_undo_one_in(6, sample, 12, 1, mesh, 3, NULL, 6, other, 4, work, 10 * 18);
     expect(one.refusal == 5, "no vertex map", 0);
-    one = flatcarol_undo_one_in(6, sample, 12, 1, mesh, 3, map, 6, NULL, 4, work, 12 * 18);
+    one = flatcarol_undo_one_in(6, sample, 12, 1, mesh, 3, map, 6, NULL, 4, work, 10 * 18);
     expect(one.refusal == 5, "no triangle map", 0);
     /* One triangle needs no entry for the coarse mesh, and so no pointer. */
-    one = flatcarol_undo_one_in(3, triangle, 3, 4, NULL, 0, map, 3, other, 1, work, 12 * 18);
+    one = flatcarol_undo_one_in(3, triangle, 3, 4, NULL, 0, map, 3, other, 1, work, 10 * 18);
     expect(one.refusal == 11, "no mesh where none is needed", 0);
 }
 
 static void try_absurd(void)
 {
-    uint16_t work[12 * 18];
+    uint16_t work[10 * 18];
     for (size_t c = 0; c < 3; c++) {
-        expect(refusal_in(calls[c], UINT64_MAX, sample, 12, 1, work, 12 * 18) == 4, "V is 2^64 - 1", c);
-        expect(refusal_in(calls[c], UINT64_MAX - 17, sample, 12, 1, work, 12 * 18) == 4, "V + 3F is 0 modulo 2^64", c);
+        expect(refusal_in(calls[c], UINT64_MAX, sample, 12, 1, work, 10 * 18) == 4, "V is 2^64 - 1", c);
+        expect(refusal_in(calls[c], UINT64_MAX - 17, sample, 12, 1, work, 10 * 18) == 4, "V + 3F is 0 modulo 2^64", c);
         expect(refusal_in(calls[c], UINT64_MAX, sample, 12, 1, NULL, 0) == 4, "V is 2^64 - 1, without work", c);
-        expect(refusal_in(calls[c], 65542, sample, 12, 1, work, 12 * 18) == 4, "V is 6 modulo 2^16", c);
-        expect(refusal_in(calls[c], 6, sample, 11, 1, work, 12 * 18) == 2, "11 entries", c);
+        expect(refusal_in(calls[c], 65542, sample, 12, 1, work, 10 * 18) == 4, "V is 6 modulo 2^16", c);
+        expect(refusal_in(calls[c], 6, sample, 11, 1, work, 10 * 18) == 2, "11 entries", c);
         if (calls[c] != SPLIT) {
-            expect(refusal_in(calls[c], 6, sample, 12, UINT64_MAX, work, 12 * 18) == 1, "asked 2^64 - 1", c);
-            expect(refusal_in(calls[c], 6, sample, 12, 256, work, 12 * 18) == 1, "asked 0 modulo 2^8", c);
+            expect(refusal_in(calls[c], 6, sample, 12, UINT64_MAX, work, 10 * 18) == 1, "asked 2^64 - 1", c);
+            expect(refusal_in(calls[c], 6, sample, 12, 256, work, 10 * 18) == 1, "asked 0 modulo 2^8", c);
         }
     }
 }
@@ -359,7 +357,7 @@ enum { ROUNDS = 300, LEVELS = 3, MOST = 3 * 64 * 3 };
 static int round_trip(const task *mine)
 {
     uint16_t lists[2][MOST];
-    uint16_t work[12 * (200 + MOST)];
+    uint16_t work[10 * (200 + MOST)];
     uint64_t vertices = mine->vertices;
     uint64_t triangles = mine->triangles;
     memcpy(lists[0], mine->list, 3 * triangles * sizeof(uint16_t));
@@ -407,13 +405,13 @@ static void try_threads(void)
 
 int main(void)
 {
-    for (size_t shorter = 0; shorter <= 8; shorter++) {
+    for (size_t shorter = 0; shorter <= 6; shorter++) {
         try_split(shorter);
     }
-    for (size_t shorter = 0; shorter <= 14; shorter++) {
+    for (size_t shorter = 0; shorter <= 12; shorter++) {
         try_undo_one(shorter);
     }
-    for (size_t shorter = 0; shorter <= 13; shorter++) {
+    for (size_t shorter = 0; shorter <= 11; shorter++) {
         try_undo_several(shorter);
     }
     try_frames();

@@ -20,15 +20,8 @@ fn room(work: &[Vec<u16>]) -> usize {
     work.iter().map(Vec::len).min().unwrap_or(0)
 }
 
-// Refusals 6 to 10. Where none is given, `link` and `first` hold the edge table.
-fn judge(
-    vertices: usize,
-    list: &[u16],
-    head: &mut [u16],
-    link: &mut [u16],
-    first: &mut [u16],
-    work: [&mut [u16]; 4],
-) -> Result<(), Refusal> {
+// Refusals 6 to 10. Where none is given, `ring` holds the rings of the edges.
+fn judge(vertices: usize, list: &[u16], ring: &mut [u16], work: [&mut [u16]; 4]) -> Result<(), Refusal> {
     let halves = list.len();
     let triangles = halves / 3;
     let [work1, work2, work3, work4] = work;
@@ -40,29 +33,24 @@ fn judge(
         return Err(Refusal(7, k));
     }
 
-    edge_table(vertices, list, head, link, first, [&mut *work1, &mut *work2, &mut *work3]);
-    let link = &link[..halves];
-    let first = &first[..halves];
+    ring_table(vertices, list, ring, [&mut *work1, &mut *work2, &mut *work3, work4]);
+    let ring = &ring[..halves];
 
     // Two triangles are the same if they have an edge and the third vertex in common.
-    let thirds = &mut work2[..halves];
-    let twins = &mut work3[..halves];
+    let thirds = &mut work1[..halves];
     third_vertices(list, thirds);
-    pairs(first, thirds, &head[..halves], link, &mut work1[..vertices], twins);
-    if let Some(k) = (0..triangles).find(|&k| twins[3 * k] as usize != 3 * k) {
-        return Err(Refusal(8, k));
+    if let Some(h) = least_twin(ring, thirds, &mut work2[..vertices]) {
+        return Err(Refusal(8, h / 3));
     }
 
-    let used = &mut work4[..vertices];
+    let used = &mut work3[..vertices];
     mark_used(list, used);
     if let Some(vertex) = used.iter().position(|&mark| mark == 0) {
         return Err(Refusal(9, vertex));
     }
 
-    let owner = &mut work1[..halves];
-    let reached = &mut work2[..triangles];
-    owners(owner);
-    reach(0, first, link, owner, reached, &mut work3[..triangles], &mut work4[..halves]);
+    let reached = &mut work1[..triangles];
+    reach(0, ring, reached, work2, &mut work3[..halves]);
     match reached.iter().position(|&mark| mark == 0) {
         Some(k) => Err(Refusal(10, k)),
         None => Ok(()),
@@ -73,53 +61,49 @@ fn has_equal(a: u16, b: u16, c: u16) -> bool {
     a == b || b == c || c == a
 }
 
-// The edge table: `first[h]` is the first half-edge on the edge of h, and `link[h]` the next one on it.
-fn edge_table(vertices: usize, list: &[u16], head: &mut [u16], link: &mut [u16], first: &mut [u16], work: [&mut [u16]; 3]) {
-    let halves = list.len();
-    let link = &mut link[..halves];
-    let first = &mut first[..halves];
-    let [lesser, greater, seen] = work;
-    let lesser = &mut lesser[..halves];
-    let greater = &mut greater[..halves];
-    for (ends, t) in lesser.chunks_exact_mut(3).zip(list.chunks_exact(3)) {
-        ends.copy_from_slice(&[t[0].min(t[1]), t[1].min(t[2]), t[2].min(t[0])]);
-    }
+// The rings of the edges: `ring[h]` is the next half-edge on the edge of h, and the first one where h is the last. Half-edges are
+// chained by their lesser end, and a walk along each chain joins those with the same greater end x: `stamp[x]` is the lesser end
+// where this chain has met x, and `last[x]` is then the last half-edge that did.
+fn ring_table(vertices: usize, list: &[u16], ring: &mut [u16], work: [&mut [u16]; 4]) {
+    // Cut to one length, so that one check of an index serves for all tables.
+    let n = list.len();
+    let [greater, head, stamp, last] = work;
+    let (greater, ring) = (&mut greater[..n], &mut ring[..n]);
+    let (head, stamp, last) = (&mut head[..vertices], &mut stamp[..vertices], &mut last[..vertices]);
     for (ends, t) in greater.chunks_exact_mut(3).zip(list.chunks_exact(3)) {
         ends.copy_from_slice(&[t[0].max(t[1]), t[1].max(t[2]), t[2].max(t[0])]);
     }
-    chain(lesser, &mut head[..vertices], link);
-    pairs(lesser, greater, &head[..vertices], link, &mut seen[..vertices], first);
-    chain(first, &mut head[..halves], link);
-}
-
-// Chains the indices of equal keys in rising order: `head[u]` is the first that holds u, and `link[h]` the next that holds h's key,
-// each the number of keys where there is none.
-fn chain(keys: &[u16], head: &mut [u16], link: &mut [u16]) {
-    head.fill(keys.len() as u16);
-    for (h, (&key, link)) in keys.iter().zip(link).enumerate().rev() {
-        let head = &mut head[key as usize];
-        *link = *head;
-        *head = h as u16;
+    chain(list, head, ring);
+    stamp.fill(vertices as u16);
+    for (u, &start) in head.iter().enumerate() {
+        let mut h = start as usize;
+        while h < n {
+            let x = greater[h] as usize;
+            // A value that is chosen, since a branch here is one that no processor foresees.
+            let (met, latest) = (stamp[x] as usize, last[x] as usize);
+            let previous = if met == u { latest } else { h };
+            stamp[x] = u as u16;
+            last[x] = h as u16;
+            // The link is read before its place takes the ring's.
+            let next = ring[h] as usize;
+            ring[h] = h as u16;
+            ring[h] = ring[previous];
+            ring[previous] = h as u16;
+            h = next;
+        }
     }
 }
 
-// `least[h]` is the least index with h's key and h's other key. Along a chain `seen[x]` is the first index so far whose other key
-// is x; what an earlier chain left there has another key or does not stand before h, so nothing is cleared.
-fn pairs(keys: &[u16], others: &[u16], head: &[u16], link: &[u16], seen: &mut [u16], least: &mut [u16]) {
-    // Cut to one length, so that `h < n` serves as the check of each index h.
-    let n = keys.len();
-    let (others, link, least) = (&others[..n], &link[..n], &mut least[..n]);
-    for &start in head {
-        let mut h = start as usize;
-        while h < n {
-            let other = others[h];
-            let seen = &mut seen[other as usize];
-            let candidate = *seen as usize;
-            let same = candidate < h && keys[candidate] == keys[h] && others[candidate] == other;
-            let leader = if same { candidate } else { h };
-            *seen = leader as u16;
-            least[h] = leader as u16;
-            h = link[h] as usize;
+// Chains the half-edges by their lesser ends: `head[u]` is the first one with the lesser end u, and `link[h]` the next one with
+// that of h, each the number of half-edges where there is none.
+fn chain(list: &[u16], head: &mut [u16], link: &mut [u16]) {
+    head.fill(list.len() as u16);
+    for (k, (links, t)) in link.chunks_exact_mut(3).zip(list.chunks_exact(3)).enumerate().rev() {
+        let lesser = [t[0].min(t[1]), t[1].min(t[2]), t[2].min(t[0])];
+        for side in [2, 1, 0] {
+            let head = &mut head[lesser[side] as usize];
+            links[side] = *head;
+            *head = (3 * k + side) as u16;
         }
     }
 }
@@ -131,6 +115,37 @@ fn third_vertices(list: &[u16], thirds: &mut [u16]) {
     }
 }
 
+// The least half-edge with a twin before it: one with the same edge and the same third vertex. On an edge with three and more
+// half-edges `stamp[v]` is the last of them where one that was met has the third vertex v.
+fn least_twin(ring: &[u16], thirds: &[u16], stamp: &mut [u16]) -> Option<usize> {
+    let n = ring.len();
+    let thirds = &thirds[..n];
+    stamp.fill(n as u16);
+    let mut least = n;
+    for (h, &next) in ring.iter().enumerate() {
+        let next = next as usize;
+        if ring[next] as usize == h {
+            if thirds[next] == thirds[h] && next < h {
+                least = least.min(h);
+            }
+        } else if next < h {
+            let mut x = next;
+            loop {
+                let stamp = &mut stamp[thirds[x] as usize];
+                if *stamp as usize == h {
+                    least = least.min(x);
+                }
+                *stamp = h as u16;
+                if x == h {
+                    break;
+                }
+                x = ring[x] as usize;
+            }
+        }
+    }
+    (least < n).then_some(least)
+}
+
 // Marks the vertices of the triangles.
 fn mark_used(list: &[u16], marks: &mut [u16]) {
     marks.fill(0);
@@ -139,17 +154,9 @@ fn mark_used(list: &[u16], marks: &mut [u16]) {
     }
 }
 
-// The triangle of each half-edge.
-fn owners(owner: &mut [u16]) {
-    for (k, owner) in owner.chunks_exact_mut(3).enumerate() {
-        owner.fill(k as u16);
-    }
-}
-
-// Marks the triangles that are reached from `start` over shared edges. Each edge is opened once, however many triangles have it.
-fn reach(start: usize, first: &[u16], link: &[u16], owner: &[u16], reached: &mut [u16], queue: &mut [u16], opened: &mut [u16]) {
-    let n = first.len();
-    let (link, owner, opened) = (&link[..n], &owner[..n], &mut opened[..n]);
+// Marks the triangles that are reached from `start` over shared edges. An edge with three and more half-edges is opened once,
+// however many triangles have it.
+fn reach(start: usize, ring: &[u16], reached: &mut [u16], queue: &mut [u16], opened: &mut [u16]) {
     reached.fill(0);
     opened.fill(0);
     reached[start] = 1;
@@ -159,37 +166,43 @@ fn reach(start: usize, first: &[u16], link: &[u16], owner: &[u16], reached: &mut
     while next < filled {
         let k = queue[next] as usize;
         next += 1;
-        for &edge in &first[3 * k..3 * k + 3] {
-            let mut h = edge as usize;
-            if opened[h] != 0 {
-                continue;
-            }
-            opened[h] = 1;
-            while h < n {
-                let k = owner[h];
-                if reached[k as usize] == 0 {
-                    reached[k as usize] = 1;
-                    queue[filled] = k;
-                    filled += 1;
+        for h in 3 * k..3 * k + 3 {
+            let across = ring[h] as usize;
+            if ring[across] as usize == h {
+                filled = push(across / 3, filled, reached, queue);
+            } else if opened[h] == 0 {
+                let mut x = across;
+                while x != h {
+                    opened[x] = 1;
+                    filled = push(x / 3, filled, reached, queue);
+                    x = ring[x] as usize;
                 }
-                h = link[h] as usize;
             }
         }
     }
 }
 
-// The number of the vertex on each half-edge's edge, from `vertices` up in order of first appearance. Answers how many edges there
-// are.
-fn number_edges(vertices: usize, first: &[u16], numbers: &mut [u16]) -> usize {
+// Marks triangle k and puts it at the end of the queue, where it counts only if it was not marked: so there is no branch, and the
+// queue has room for one entry more than there are triangles.
+fn push(k: usize, filled: usize, reached: &mut [u16], queue: &mut [u16]) -> usize {
+    queue[filled] = k as u16;
+    let count = filled + usize::from(reached[k] == 0);
+    reached[k] = 1;
+    count
+}
+
+// The number of the vertex on each half-edge's edge, from `vertices` up in order of first appearance. A half-edge keeps the number
+// that it was handed, or gets the next one, and hands it on round its ring. Answers how many edges there are.
+fn number_edges(vertices: usize, ring: &[u16], numbers: &mut [u16]) -> usize {
+    let none = (vertices + ring.len()) as u16;
+    numbers.fill(none);
     let mut edges = 0;
-    for (h, &first) in first.iter().enumerate() {
-        let first = first as usize;
-        if first == h {
-            numbers[h] = (vertices + edges) as u16;
-            edges += 1;
-        } else {
-            numbers[h] = numbers[first];
-        }
+    for (h, &next) in ring.iter().enumerate() {
+        let held = numbers[h];
+        let number = if held == none { (vertices + edges) as u16 } else { held };
+        edges += usize::from(held == none);
+        numbers[h] = number;
+        numbers[next as usize] = number;
     }
     edges
 }

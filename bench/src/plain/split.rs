@@ -18,10 +18,10 @@ pub fn split(vertices: u64, list: &[u16], out: &mut [u16], work: &mut SplitWork)
 // Refusals 6 to 10, and the split.
 fn split_mesh(vertices: usize, list: &[u16], out: &mut [u16], work: &mut SplitWork) -> Result<Counts, Refusal> {
     let halves = list.len();
-    let [head, link, first, work1, work2, work3, work4] = work;
-    judge(vertices, list, head, link, first, [&mut *work1, work2, work3, work4])?;
+    let [ring, work1, work2, work3, work4] = work;
+    judge(vertices, list, ring, [&mut *work1, work2, work3, work4])?;
     let numbers = &mut work1[..halves];
-    let edges = number_edges(vertices, &first[..halves], numbers);
+    let edges = number_edges(vertices, &ring[..halves], numbers);
     write_fours(list, numbers, out);
     Ok((vertices + edges, 4 * halves / 3))
 }

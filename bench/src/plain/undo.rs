@@ -1,19 +1,17 @@
 // What undo one and undo several share: the roles of a mesh.
-use super::{edge_table, has_equal, mark_used, number_edges, owners, reach, third_vertices, write_fours};
+use super::{has_equal, mark_used, number_edges, reach, ring_table, third_vertices, write_fours};
 use std::ops::Range;
 
 pub const ROLES: Range<usize> = 0..4;
 
-// What all roles share: the mesh, the half-edge across each half-edge, the covering mesh, its edge table, and the triangle of each
-// half-edge. Each table has an entry for each half-edge.
+// What all roles share: the mesh, the other half-edge of each half-edge, the covering mesh and its rings. Each table has an entry
+// for each half-edge.
 struct Cover<'a> {
     vertices: usize,
     list: &'a [u16],
-    mate: &'a [u16],
+    other: &'a [u16],
     rows: &'a [u16],
-    first: &'a [u16],
-    link: &'a [u16],
-    owner: &'a [u16],
+    ring: &'a [u16],
 }
 
 // What each role uses anew. Where a role has a reading, the coarse mesh is left in `coarse` and the maps in `map` and `faces`.
@@ -26,16 +24,15 @@ pub struct Role<'a> {
     pub table: &'a mut [u16],
 }
 
-// The tables of a cover before it is made, where `first` and `link` hold the edge table of the mesh.
+// The tables of a cover before it is made, where `ring` holds the rings of the mesh.
 pub struct Tables<'a> {
-    pub mate: &'a mut [u16],
+    pub other: &'a mut [u16],
     pub rows: &'a mut [u16],
-    pub first: &'a mut [u16],
-    pub link: &'a mut [u16],
-    pub owner: &'a mut [u16],
+    pub ring: &'a mut [u16],
 }
 
-// The least of the roles that has a reading, and how many vertices its coarse mesh has.
+// The least of the roles that has a reading, and how many vertices its coarse mesh has. A mesh whose triangles are no multiple of
+// four has none.
 pub fn least_role(
     roles: Range<usize>,
     vertices: usize,
@@ -43,6 +40,9 @@ pub fn least_role(
     tables: &mut Tables,
     role: &mut Role,
 ) -> Option<(usize, usize)> {
+    if !(list.len() / 3).is_multiple_of(4) {
+        return None;
+    }
     let cover = tables.cover(vertices, list, role);
     roles.into_iter().find_map(|number| Some((number, role.try_role(number, &cover)?)))
 }
@@ -51,39 +51,38 @@ impl Tables<'_> {
     // Makes the cover, with what a role uses as work buffers.
     fn cover<'b>(&'b mut self, vertices: usize, list: &'b [u16], role: &mut Role) -> Cover<'b> {
         let halves = list.len();
-        let (mate, rows, owner) = (&mut self.mate[..halves], &mut self.rows[..halves], &mut self.owner[..halves]);
-        mates(&self.first[..halves], &self.link[..halves], mate);
-        third_vertices(list, owner);
-        cover_rows(mate, owner, rows);
-        edge_table(vertices, rows, role.numbers, self.link, self.first, [&mut *role.marks, &mut *role.coarse, &mut *role.map]);
-        owners(owner);
-        Cover { vertices, list, mate, rows, first: &self.first[..halves], link: &self.link[..halves], owner }
+        let (other, rows) = (&mut self.other[..halves], &mut self.rows[..halves]);
+        let thirds = &mut role.marks[..halves];
+        others(&self.ring[..halves], other);
+        third_vertices(list, thirds);
+        cover_rows(other, thirds, rows);
+        let work = [&mut *role.marks, &mut *role.coarse, &mut *role.numbers, &mut *role.map];
+        ring_table(vertices, rows, self.ring, work);
+        Cover { vertices, list, other, rows, ring: &self.ring[..halves] }
     }
 }
 
-// The other half-edge on each half-edge's edge where there are exactly two, else the number of half-edges.
-fn mates(first: &[u16], link: &[u16], mate: &mut [u16]) {
-    let n = first.len();
-    let (link, mate) = (&link[..n], &mut mate[..n]);
-    mate.fill(n as u16);
-    for (h, &first) in first.iter().enumerate() {
-        let g = link[h] as usize;
-        if first as usize == h && g < n && link[g] as usize >= n {
-            mate[h] = g as u16;
-            mate[g] = h as u16;
-        }
+// The other half-edge on each half-edge's edge where there are two, itself where it is alone, and the number of half-edges where
+// there are three and more.
+fn others(ring: &[u16], other: &mut [u16]) {
+    for (h, (other, &next)) in other.iter_mut().zip(ring).enumerate() {
+        *other = if ring[next as usize] as usize == h { next } else { ring.len() as u16 };
     }
+}
+
+// The other half-edge on the edge of h where there are exactly two.
+fn mate(h: usize, other: &[u16]) -> Option<usize> {
+    let across = other[h] as usize;
+    (across != h && across < other.len()).then_some(across)
 }
 
 // The covering mesh: for each triangle whose edges all have mates the vertices across them, at each corner that across the edge
 // which ends there, if these are different; and 0 three times for any other triangle.
-fn cover_rows(mate: &[u16], thirds: &[u16], rows: &mut [u16]) {
-    let n = mate.len();
-    let thirds = &thirds[..n];
-    for (row, mates) in rows.chunks_exact_mut(3).zip(mate.chunks_exact(3)) {
-        let [f, g, h] = [mates[0] as usize, mates[1] as usize, mates[2] as usize];
+fn cover_rows(other: &[u16], thirds: &[u16], rows: &mut [u16]) {
+    let thirds = &thirds[..other.len()];
+    for (k, row) in rows.chunks_exact_mut(3).enumerate() {
         let mut tile = [0; 3];
-        if f < n && g < n && h < n {
+        if let [Some(f), Some(g), Some(h)] = [mate(3 * k, other), mate(3 * k + 1, other), mate(3 * k + 2, other)] {
             let [a, b, c] = [thirds[h], thirds[f], thirds[g]];
             if !has_equal(a, b, c) {
                 tile = [a, b, c];
@@ -94,22 +93,13 @@ fn cover_rows(mate: &[u16], thirds: &[u16], rows: &mut [u16]) {
 }
 
 impl Cover<'_> {
-    fn halves(&self) -> usize {
-        self.list.len()
-    }
-
     fn triangles(&self) -> usize {
         self.list.len() / 3
     }
 
     // The tile where the search for a role starts: triangle 0, or the one across the side opposite its corner.
     fn start(&self, role: usize) -> Option<usize> {
-        let tile = if role == 0 {
-            0
-        } else {
-            let across = self.mate[role % 3] as usize;
-            *self.owner.get(across)? as usize
-        };
+        let tile = if role == 0 { 0 } else { mate(role % 3, self.other)? / 3 };
         (self.rows[3 * tile] != self.rows[3 * tile + 1]).then_some(tile)
     }
 }
@@ -125,11 +115,10 @@ impl Role<'_> {
     // Marks the tiles that are reached from the role's start, which must be a quarter of the triangles, and puts their rows into
     // `faces`.
     fn find_tiles(&mut self, role: usize, cover: &Cover) -> Option<()> {
-        let (halves, triangles) = (cover.halves(), cover.triangles());
+        let triangles = cover.triangles();
         let start = cover.start(role)?;
         let marks = &mut self.marks[..triangles];
-        let queue = &mut self.map[..triangles];
-        reach(start, cover.first, cover.link, cover.owner, marks, queue, &mut self.table[..halves]);
+        reach(start, cover.ring, marks, self.map, &mut self.table[..3 * triangles]);
         let count = select(cover.rows, marks, self.faces);
         (4 * count == triangles).then_some(())
     }
@@ -151,7 +140,7 @@ impl Role<'_> {
         let marks = &self.marks[..triangles];
         let tile = &mut self.map[..triangles];
         ranks(marks, tile);
-        selected_firsts(cover.first, cover.owner, marks, tile, &mut self.table[..corners]);
+        selected_ring(cover.ring, marks, tile, &mut self.table[..corners]);
         let edges = number_edges(kept_count, &self.table[..corners], &mut self.numbers[..corners]);
         (kept_count + edges == vertices).then_some(kept_count)
     }
@@ -175,9 +164,9 @@ impl Role<'_> {
     fn map_triangles(&mut self, cover: &Cover) -> bool {
         let triangles = cover.triangles();
         let claimed = &mut self.table[..triangles];
-        let tiles = cover.mate.chunks_exact(3).zip(&self.marks[..triangles]).enumerate().filter(|(_, (_, &mark))| mark != 0);
-        for (four, (k, (mates, _))) in claimed.chunks_exact_mut(4).zip(tiles) {
-            let across = |side: usize| cover.owner[mates[side] as usize];
+        let tiles = cover.other.chunks_exact(3).zip(&self.marks[..triangles]).enumerate().filter(|(_, (_, &mark))| mark != 0);
+        for (four, (k, (others, _))) in claimed.chunks_exact_mut(4).zip(tiles) {
+            let across = |side: usize| others[side] / 3;
             four.copy_from_slice(&[k as u16, across(2), across(0), across(1)]);
         }
         let faces = &mut self.faces[..triangles];
@@ -223,12 +212,12 @@ fn ranks(marks: &[u16], rank: &mut [u16]) -> usize {
     count
 }
 
-// The first half-edges of the marked triangles' edges, as half-edges of the marked triangles alone, whose ranks are in `tile`.
-fn selected_firsts(first: &[u16], owner: &[u16], marks: &[u16], tile: &[u16], out: &mut [u16]) {
-    let marked = first.chunks_exact(3).zip(marks).filter(|(_, &mark)| mark != 0);
-    for (out, (firsts, _)) in out.chunks_exact_mut(3).zip(marked) {
-        for (out, &h) in out.iter_mut().zip(firsts) {
-            let k = owner[h as usize];
+// The rings of the marked triangles' edges, as half-edges of the marked triangles alone, whose ranks are in `tile`.
+fn selected_ring(ring: &[u16], marks: &[u16], tile: &[u16], out: &mut [u16]) {
+    let marked = ring.chunks_exact(3).zip(marks).filter(|(_, &mark)| mark != 0);
+    for (out, (nexts, _)) in out.chunks_exact_mut(3).zip(marked) {
+        for (out, &h) in out.iter_mut().zip(nexts) {
+            let k = h / 3;
             *out = 3 * tile[k as usize] + (h - 3 * k);
         }
     }

@@ -25,10 +25,10 @@ fn undo_mesh(
     work: &mut OneWork,
 ) -> Result<(usize, Counts), Refusal> {
     let triangles = list.len() / 3;
-    let [mate, rows, first, link, owner, marks, coarse, numbers, map, faces, table] = work;
-    judge(vertices, list, marks, link, first, [&mut *coarse, numbers, map, table])?;
+    let [other, rows, ring, marks, coarse, numbers, map, faces, table] = work;
+    judge(vertices, list, ring, [&mut *marks, coarse, numbers, map])?;
 
-    let mut tables = Tables { mate, rows, first, link, owner };
+    let mut tables = Tables { other, rows, ring };
     let mut role = Role { marks, coarse, numbers, map, faces, table };
     let roles = if asked == ANY_ROLE { ROLES } else { asked as usize..asked as usize + 1 };
     let (number, kept) = least_role(roles, vertices, list, &mut tables, &mut role).ok_or(Refusal(11, 0))?;

@@ -1,6 +1,6 @@
 // Undo several.
 use super::undo::{least_role, Role, Tables, ROLES};
-use super::{clear, edge_table, judge, room};
+use super::{clear, judge, ring_table, room};
 use crate::library::{SeveralAnswer, SeveralWork};
 use crate::refusals::{judge_undo_several, several_answer, Refusal};
 use std::mem::swap;
@@ -27,12 +27,12 @@ fn undo_levels(
     work: &mut SeveralWork,
 ) -> Result<SeveralAnswer, Refusal> {
     let (mut vertices, mut corners) = (vertices, list.len());
-    let [current, coarse, mate, rows, first, link, owner, marks, numbers, map, faces, table] = work;
-    judge(vertices, list, marks, link, first, [&mut *coarse, numbers, map, table])?;
+    let [current, coarse, other, rows, ring, marks, numbers, map, faces, table] = work;
+    judge(vertices, list, ring, [&mut *marks, numbers, map, faces])?;
 
     let mut current = &mut current[..];
     current[..corners].copy_from_slice(list);
-    let mut tables = Tables { mate, rows, first, link, owner };
+    let mut tables = Tables { other, rows, ring };
     let mut role = Role { marks, coarse, numbers, map, faces, table };
     let mut answer = SeveralAnswer::default();
     while answer.levels < asked {
@@ -43,8 +43,8 @@ fn undo_levels(
         answer.levels += 1;
         (vertices, corners) = (kept, corners / 4);
         swap(&mut current, &mut role.coarse);
-        let work = [&mut *role.marks, &mut *role.numbers, &mut *role.faces];
-        edge_table(vertices, &current[..corners], role.map, tables.link, tables.first, work);
+        let work = [&mut *role.marks, &mut *role.numbers, &mut *role.map, &mut *role.faces];
+        ring_table(vertices, &current[..corners], tables.ring, work);
     }
     out[..corners].copy_from_slice(&current[..corners]);
     (answer.vertices, answer.triangles) = (vertices as u64, corners as u64 / 3);

@@ -58,8 +58,6 @@ pub(crate) fn print_mesh(vertices: usize, list: &[u16], text: &mut [u8]) -> usiz
     let mut work7 = [0u16; Sizes::WORK];
     let mut work8 = [0u16; Sizes::WORK];
     let mut work9 = [0u16; Sizes::WORK];
-    let mut work10 = [0u16; Sizes::WORK];
-    let mut work11 = [0u16; Sizes::WORK];
     let answer = flatcarol_undo_one(
         vertices as u64,
         list,
@@ -76,8 +74,6 @@ pub(crate) fn print_mesh(vertices: usize, list: &[u16], text: &mut [u8]) -> usiz
         &mut work7,
         &mut work8,
         &mut work9,
-        &mut work10,
-        &mut work11,
     );
     print_undone(answer, vertices, list, &mesh, &map, &tiles, text)
 }

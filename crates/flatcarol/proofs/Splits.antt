@@ -16,9 +16,9 @@ use Rattle.limits.proofs.Sized.{Sized, sized}
 use Rattle.parts.specs.Splitting.{SplitLent, SplitsMesh, refuses, accepts}
 use Rattle.flatcarol.proofs.Checks.{Checked, checks-refused, checks-passed, numbers-passed, none-short}
 
--- A list of seven.
-abbrev seven : {A : Type 0} → A → A → A → A → A → A → A → List A
-seven a b c d e f g = a ∷ b ∷ c ∷ d ∷ e ∷ f ∷ g ∷ []
+-- A list of five.
+abbrev five : {A : Type 0} → A → A → A → A → A → List A
+five a b c d e = a ∷ b ∷ c ∷ d ∷ e ∷ []
 
 -- The verdict on 2 to 5.
 pub record SplitChecked (N : ℕ) (T out work : List ℕ) (works : List (List ℕ)) (number : ℕ) : Type 0 where
@@ -35,31 +35,29 @@ module _ {N : ℕ} {T out work : List ℕ} {works : List (List ℕ)} {number : �
 
   module _ (right : number ≡ 0) where
     -- the part that does the work is lent what it asks for, in buffers that are as long
-    pub split-lent : {a b c d e f g : List ℕ} → map length (seven a b c d e f g) ≡ map length (work ∷ works)
-        → SplitLent N T out a b c d e f g
-    split-lent {a} {b} {c} {d} {e} {f} {g} same =
+    pub split-lent : {a b c d e : List ℕ} → map length (five a b c d e) ≡ map length (work ∷ works)
+        → SplitLent N T out a b c d e
+    split-lent {a} {b} {c} {d} {e} same =
         record {
           whole = omega (arith, sizes);
           some = sizes .some;
           few = sizes .few;
           low = sizes .low;
           room = fits .0;
-          headRoom = record { room = fits .1 .0 };
-          linkRoom = record { room = fits .1 .1 .0 };
-          firstRoom = record { room = fits .1 .1 .1 .0 };
-          work1Room = record { room = fits .1 .1 .1 .1 .0 };
-          work2Room = record { room = fits .1 .1 .1 .1 .1 .0 };
-          work3Room = record { room = fits .1 .1 .1 .1 .1 .1 .0 };
-          work4Room = record { room = fits .1 .1 .1 .1 .1 .1 .1 .0 };
+          ringRoom = record { room = fits .1 .0 };
+          work1Room = record { room = fits .1 .1 .0 };
+          work2Room = record { room = fits .1 .1 .1 .0 };
+          work3Room = record { room = fits .1 .1 .1 .1 .0 };
+          work4Room = record { room = fits .1 .1 .1 .1 .1 .0 };
         }
       where
         sizes : Sized mostSplitTriangles N (length T)
         sizes = sized mostSplitTriangles N (length T) (numbers-passed (C .checked) right)
 
-        fits : Fits (splitRooms N T out (seven a b c d e f g))
+        fits : Fits (splitRooms N T out (five a b c d e))
         fits =
-            none-short-fits (splitRooms N T out (seven a b c d e f g))
-            (none-short (C .checked) right (seven a b c d e f g) same)
+            none-short-fits (splitRooms N T out (five a b c d e))
+            (none-short (C .checked) right (five a b c d e) same)
 
     -- and what it does is what the call does
     pub split-does : {answer : Answer} {out′ : List ℕ} {works′ : List (List ℕ)} → SplitsMesh N T out answer out′

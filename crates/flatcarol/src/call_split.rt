@@ -1,7 +1,7 @@
 // The call split.
 use lent::sizes::judge_split_size;
-use lent::work::clear_seven;
-use lent::work::shortest_of_seven;
+use lent::work::clear_five;
+use lent::work::shortest_of_five;
 use parts::answers::Answer;
 use parts::answers::refused;
 use parts::split_part::split_mesh;
@@ -21,27 +21,23 @@ pub extern "C" fn flatcarol_split(
     work3: &mut [u16],
     work4: &mut [u16],
     work5: &mut [u16],
-    work6: &mut [u16],
-    work7: &mut [u16],
 ) -> Answer
     ensures { λ r. ⌜ Splits vertices (now (list .entry)) (now (out .entry))
         (now (work1 .entry) ∷ now (work2 .entry) ∷ now (work3 .entry) ∷ now (work4 .entry)
-        ∷ now (work5 .entry) ∷ now (work6 .entry) ∷ now (work7 .entry) ∷ [])
+        ∷ now (work5 .entry) ∷ [])
         (answerOf r) (now (out .exit))
         (now (work1 .exit) ∷ now (work2 .exit) ∷ now (work3 .exit) ∷ now (work4 .exit)
-        ∷ now (work5 .exit) ∷ now (work6 .exit) ∷ now (work7 .exit) ∷ []) ⌝ }
+        ∷ now (work5 .exit) ∷ []) ⌝ }
 {
-    let work = shortest_of_seven(
+    let work = shortest_of_five(
         work1.len(),
         work2.len(),
         work3.len(),
         work4.len(),
         work5.len(),
-        work6.len(),
-        work7.len(),
     );
     let number = judge_split_size(vertices, list.len(), out.len(), work);
-    clear_seven(work1, work2, work3, work4, work5, work6, work7);
+    clear_five(work1, work2, work3, work4, work5);
     if number != 0 {
         return refused(number, 0);
     }
@@ -54,9 +50,7 @@ pub extern "C" fn flatcarol_split(
         work3,
         work4,
         work5,
-        work6,
-        work7,
     );
-    clear_seven(work1, work2, work3, work4, work5, work6, work7);
+    clear_five(work1, work2, work3, work4, work5);
     answer
 }

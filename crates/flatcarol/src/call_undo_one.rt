@@ -1,7 +1,7 @@
 // The call undo one.
 use lent::sizes::judge_undo_one_size;
-use lent::work::clear_eleven;
-use lent::work::shortest_of_eleven;
+use lent::work::clear_nine;
+use lent::work::shortest_of_nine;
 use parts::answers::OneAnswer;
 use parts::answers::refused_one;
 use parts::undo_one_part::undo_mesh;
@@ -30,21 +30,19 @@ pub extern "C" fn flatcarol_undo_one(
     work7: &mut [u16],
     work8: &mut [u16],
     work9: &mut [u16],
-    work10: &mut [u16],
-    work11: &mut [u16],
 ) -> OneAnswer
     ensures { λ r. ⌜ UndoesOne vertices (now (list .entry)) asked
         (outputs (now (mesh .entry)) (now («vertex_map» .entry)) (now («triangle_map» .entry)))
         (now (work1 .entry) ∷ now (work2 .entry) ∷ now (work3 .entry) ∷ now (work4 .entry)
         ∷ now (work5 .entry) ∷ now (work6 .entry) ∷ now (work7 .entry) ∷ now (work8 .entry)
-        ∷ now (work9 .entry) ∷ now (work10 .entry) ∷ now (work11 .entry) ∷ [])
+        ∷ now (work9 .entry) ∷ [])
         (oneAnswerOf r)
         (outputs (now (mesh .exit)) (now («vertex_map» .exit)) (now («triangle_map» .exit)))
         (now (work1 .exit) ∷ now (work2 .exit) ∷ now (work3 .exit) ∷ now (work4 .exit)
         ∷ now (work5 .exit) ∷ now (work6 .exit) ∷ now (work7 .exit) ∷ now (work8 .exit)
-        ∷ now (work9 .exit) ∷ now (work10 .exit) ∷ now (work11 .exit) ∷ []) ⌝ }
+        ∷ now (work9 .exit) ∷ []) ⌝ }
 {
-    let work = shortest_of_eleven(
+    let work = shortest_of_nine(
         work1.len(),
         work2.len(),
         work3.len(),
@@ -54,8 +52,6 @@ pub extern "C" fn flatcarol_undo_one(
         work7.len(),
         work8.len(),
         work9.len(),
-        work10.len(),
-        work11.len(),
     );
     let number = judge_undo_one_size(
         vertices,
@@ -66,7 +62,7 @@ pub extern "C" fn flatcarol_undo_one(
         triangle_map.len(),
         work,
     );
-    clear_eleven(
+    clear_nine(
         work1,
         work2,
         work3,
@@ -76,8 +72,6 @@ pub extern "C" fn flatcarol_undo_one(
         work7,
         work8,
         work9,
-        work10,
-        work11,
     );
     if number != 0 {
         return refused_one(number, 0);
@@ -98,10 +92,8 @@ pub extern "C" fn flatcarol_undo_one(
         work7,
         work8,
         work9,
-        work10,
-        work11,
     );
-    clear_eleven(
+    clear_nine(
         work1,
         work2,
         work3,
@@ -111,8 +103,6 @@ pub extern "C" fn flatcarol_undo_one(
         work7,
         work8,
         work9,
-        work10,
-        work11,
     );
     answer
 }

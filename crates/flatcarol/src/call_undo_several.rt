@@ -1,7 +1,7 @@
 // The call undo several.
 use lent::sizes::judge_undo_several_size;
-use lent::work::clear_twelve;
-use lent::work::shortest_of_twelve;
+use lent::work::clear_ten;
+use lent::work::shortest_of_ten;
 use parts::answers::SeveralAnswer;
 use parts::answers::refused_several;
 use parts::undo_several_part::undo_mesh_levels;
@@ -28,19 +28,17 @@ pub extern "C" fn flatcarol_undo_several(
     work8: &mut [u16],
     work9: &mut [u16],
     work10: &mut [u16],
-    work11: &mut [u16],
-    work12: &mut [u16],
 ) -> SeveralAnswer
     ensures { λ r. ⌜ UndoesSeveral vertices (now (list .entry)) asked (now (out .entry))
         (now (work1 .entry) ∷ now (work2 .entry) ∷ now (work3 .entry) ∷ now (work4 .entry)
         ∷ now (work5 .entry) ∷ now (work6 .entry) ∷ now (work7 .entry) ∷ now (work8 .entry)
-        ∷ now (work9 .entry) ∷ now (work10 .entry) ∷ now (work11 .entry) ∷ now (work12 .entry) ∷ [])
+        ∷ now (work9 .entry) ∷ now (work10 .entry) ∷ [])
         (severalAnswerOf r) (now (out .exit))
         (now (work1 .exit) ∷ now (work2 .exit) ∷ now (work3 .exit) ∷ now (work4 .exit)
         ∷ now (work5 .exit) ∷ now (work6 .exit) ∷ now (work7 .exit) ∷ now (work8 .exit)
-        ∷ now (work9 .exit) ∷ now (work10 .exit) ∷ now (work11 .exit) ∷ now (work12 .exit) ∷ []) ⌝ }
+        ∷ now (work9 .exit) ∷ now (work10 .exit) ∷ []) ⌝ }
 {
-    let work = shortest_of_twelve(
+    let work = shortest_of_ten(
         work1.len(),
         work2.len(),
         work3.len(),
@@ -51,11 +49,9 @@ pub extern "C" fn flatcarol_undo_several(
         work8.len(),
         work9.len(),
         work10.len(),
-        work11.len(),
-        work12.len(),
     );
     let number = judge_undo_several_size(vertices, list.len(), asked, out.len(), work);
-    clear_twelve(
+    clear_ten(
         work1,
         work2,
         work3,
@@ -66,8 +62,6 @@ pub extern "C" fn flatcarol_undo_several(
         work8,
         work9,
         work10,
-        work11,
-        work12,
     );
     if number != 0 {
         return refused_several(number, 0);
@@ -87,10 +81,8 @@ pub extern "C" fn flatcarol_undo_several(
         work8,
         work9,
         work10,
-        work11,
-        work12,
     );
-    clear_twelve(
+    clear_ten(
         work1,
         work2,
         work3,
@@ -101,8 +93,6 @@ pub extern "C" fn flatcarol_undo_several(
         work8,
         work9,
         work10,
-        work11,
-        work12,
     );
     answer
 }

@@ -1,16 +1,15 @@
-// The judgement of a mesh: the first of refusals 6 to 10 that is given, at its least place, with the edge table where
-// none is. It rests on `limits`, which says what a judgement is, and on `mesh`, which searches for each fault. It
-// takes time linear in vertices and triangles, whatever the mesh, and assumes nothing.
+// The judgement of a mesh: the first of refusals 6 to 10 that is given, at its least place, with the rings of the
+// edges where none is. It rests on `limits`, which says what a judgement is, and on `faults` and `reach`, which search
+// for each fault. It takes time linear in vertices and triangles, whatever the mesh, and assumes nothing.
+use faults::corner_not_below;
+use faults::equal_corners;
+use faults::in_no_triangle;
+use faults::same_as_earlier;
 use lists::first_zero;
-use mesh::edges::edge_table;
-use mesh::ends::owners;
-use mesh::faults::corner_not_below;
-use mesh::faults::equal_corners;
-use mesh::faults::in_no_triangle;
-use mesh::faults::same_as_earlier;
-use mesh::reach::reach;
+use reach::reach;
+use rings::ring::ring_table;
 ghost use Rattle.limits.specs.Judged.{Judged};
-ghost use Rattle.mesh.specs.Faults.{Whole};
+ghost use Rattle.faults.specs.Faults.{Whole};
 ghost use Rattle.judge.specs.Judging.{cornerRules, connectedRules, JudgeLent, TrianglesLent, TrianglesJudged};
 ghost use Rattle.judge.specs.Judging.{ConnectLent, MeshJudged};
 
@@ -45,53 +44,31 @@ fn judge_corners(list: &[u16], vertices: usize, triangles: usize) -> Verdict
     }
 }
 
-// 8 and 9, with the edge table, which stays in `head`, `link` and `first`.
+// 8 and 9, with the rings of the edges, which stay in `ring`.
 fn judge_triangles(
     list: &[u16],
     vertices: usize,
     triangles: usize,
-    head: &mut [u16],
-    link: &mut [u16],
-    first: &mut [u16],
+    ring: &mut [u16],
     work1: &mut [u16],
     work2: &mut [u16],
     work3: &mut [u16],
     work4: &mut [u16],
 ) -> Verdict
-    requires { ⌜ TrianglesLent vertices triangles (now list) (now head) (now link) (now first) (now work1)
-        (now work2) (now work3) (now work4) ⌝ }
-    ensures { λ r. ⌜ TrianglesJudged vertices triangles (now (list .entry)) (now (head .exit)) (now (link .exit))
-        (now (first .exit)) (r .number) (r .place) ⌝ }
+    requires { ⌜ TrianglesLent vertices triangles (now list) (now ring) (now work1) (now work2) (now work3)
+        (now work4) ⌝ }
+    ensures { λ r. ⌜ TrianglesJudged vertices triangles (now (list .entry)) (now (ring .exit)) (r .number)
+        (r .place) ⌝ }
 {
-    edge_table(
-        list,
-        vertices,
-        triangles,
-        work1,
-        work2,
-        head,
-        link,
-        work3,
-        first,
-    );
-    let k = same_as_earlier(
-        list,
-        vertices,
-        triangles,
-        head,
-        link,
-        first,
-        work1,
-        work2,
-        work3,
-    );
+    ring_table(list, vertices, triangles, work1, work2, work3, work4, ring);
+    let k = same_as_earlier(list, vertices, triangles, ring, work1, work2);
     if k < triangles {
         return Verdict {
             number: 8,
             place: k as u64,
         };
     }
-    let v = in_no_triangle(list, vertices, triangles, work4);
+    let v = in_no_triangle(list, vertices, triangles, work3);
     if v < vertices {
         return Verdict {
             number: 9,
@@ -107,20 +84,17 @@ fn judge_triangles(
 // 10, which looks for a triangle that is not connected to triangle 0.
 pub fn judge_connected(
     list: &[u16],
-    first: &[u16],
-    link: &[u16],
-    work1: &mut [u16],
-    work2: &mut [u16],
-    work3: &mut [u16],
-    work4: &mut [u16],
+    ring: &[u16],
+    marks: &mut [u16],
+    queue: &mut [u16],
+    opened: &mut [u16],
 ) -> Verdict
-    requires { ⌜ ConnectLent (now list) (now first) (now link) (now work1) (now work2) (now work3) (now work4) ⌝ }
+    requires { ⌜ ConnectLent (now list) (now ring) (now marks) (now queue) (now opened) ⌝ }
     ensures { λ r. ⌜ Judged (connectedRules (now (list .entry))) (r .number) (r .place) ⌝ }
 {
     let triangles = list.len() / 3;
-    owners(triangles, work1);
-    reach(0, triangles, first, link, work1, work2, work3, work4);
-    let k = first_zero(work2, triangles);
+    reach(0, triangles, ring, marks, queue, opened);
+    let k = first_zero(marks, triangles);
     if k < triangles {
         return Verdict {
             number: 10,
@@ -133,42 +107,29 @@ pub fn judge_connected(
     }
 }
 
-// 6 to 10. Where none is given, `head`, `link` and `first` hold the edge table.
+// 6 to 10. Where none is given, `ring` holds the rings of the edges.
 pub fn judge(
     list: &[u16],
     vertices: usize,
     triangles: usize,
-    head: &mut [u16],
-    link: &mut [u16],
-    first: &mut [u16],
+    ring: &mut [u16],
     work1: &mut [u16],
     work2: &mut [u16],
     work3: &mut [u16],
     work4: &mut [u16],
 ) -> Verdict
-    requires { ⌜ JudgeLent vertices triangles (now list) (now head) (now link) (now first) (now work1) (now work2)
-        (now work3) (now work4) ⌝ }
-    ensures { λ r. ⌜ MeshJudged vertices triangles (now (list .entry)) (now (head .exit)) (now (link .exit))
-        (now (first .exit)) (r .number) (r .place) ⌝ }
+    requires { ⌜ JudgeLent vertices triangles (now list) (now ring) (now work1) (now work2) (now work3)
+        (now work4) ⌝ }
+    ensures { λ r. ⌜ MeshJudged vertices triangles (now (list .entry)) (now (ring .exit)) (r .number)
+        (r .place) ⌝ }
 {
     let v = judge_corners(list, vertices, triangles);
     if v.number != 0 {
         return v;
     }
-    let v = judge_triangles(
-        list,
-        vertices,
-        triangles,
-        head,
-        link,
-        first,
-        work1,
-        work2,
-        work3,
-        work4,
-    );
+    let v = judge_triangles(list, vertices, triangles, ring, work1, work2, work3, work4);
     if v.number != 0 {
         return v;
     }
-    judge_connected(list, first, link, work1, work2, work3, work4)
+    judge_connected(list, ring, work1, work2, work3)
 }

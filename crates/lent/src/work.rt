@@ -1,27 +1,20 @@
 // The work buffers of a call.
 use lists::clear;
+use lists::lesser;
 ghost use mathlib.Core.Path.{_≡_};
 ghost use mathlib.Core.List.{[], _∷_, map};
-ghost use Prim.Native.Nat.{min};
 ghost use Rattle.theory.specs.Calls.{zeros};
 ghost use Rattle.lent.specs.Lengths.{least};
 
-// The lesser of two lengths.
-fn shorter(a: usize, b: usize) -> usize
-    ensures { λ r. ⌜ r ≡ min a b ⌝ }
+// The least of five.
+pub fn shortest_of_five(a: usize, b: usize, c: usize, d: usize, e: usize) -> usize
+    ensures { λ r. ⌜ r ≡ least a (b ∷ c ∷ d ∷ e ∷ []) ⌝ }
 {
-    if a < b { a } else { b }
+    lesser(a, lesser(b, lesser(c, lesser(d, e))))
 }
 
-// The least of four lengths.
-fn shortest_of_four(a: usize, b: usize, c: usize, d: usize) -> usize
-    ensures { λ r. ⌜ r ≡ least a (b ∷ c ∷ d ∷ []) ⌝ }
-{
-    shorter(a, shorter(b, shorter(c, d)))
-}
-
-// The least of seven.
-pub fn shortest_of_seven(
+// The least of nine.
+pub fn shortest_of_nine(
     a: usize,
     b: usize,
     c: usize,
@@ -29,14 +22,17 @@ pub fn shortest_of_seven(
     e: usize,
     f: usize,
     g: usize,
+    h: usize,
+    i: usize,
 ) -> usize
-    ensures { λ r. ⌜ r ≡ least a (b ∷ c ∷ d ∷ e ∷ f ∷ g ∷ []) ⌝ }
+    ensures { λ r. ⌜ r ≡ least a (b ∷ c ∷ d ∷ e ∷ f ∷ g ∷ h ∷ i ∷ []) ⌝ }
 {
-    shorter(a, shorter(b, shorter(c, shortest_of_four(d, e, f, g))))
+    let others = shortest_of_five(e, f, g, h, i);
+    lesser(a, lesser(b, lesser(c, lesser(d, others))))
 }
 
-// The least of eleven.
-pub fn shortest_of_eleven(
+// The least of ten.
+pub fn shortest_of_ten(
     a: usize,
     b: usize,
     c: usize,
@@ -47,32 +43,10 @@ pub fn shortest_of_eleven(
     h: usize,
     i: usize,
     j: usize,
-    k: usize,
 ) -> usize
-    ensures { λ r. ⌜ r ≡ least a (b ∷ c ∷ d ∷ e ∷ f ∷ g ∷ h ∷ i ∷ j ∷ k ∷ []) ⌝ }
+    ensures { λ r. ⌜ r ≡ least a (b ∷ c ∷ d ∷ e ∷ f ∷ g ∷ h ∷ i ∷ j ∷ []) ⌝ }
 {
-    let others = shortest_of_seven(e, f, g, h, i, j, k);
-    shorter(a, shorter(b, shorter(c, shorter(d, others))))
-}
-
-// The least of twelve.
-pub fn shortest_of_twelve(
-    a: usize,
-    b: usize,
-    c: usize,
-    d: usize,
-    e: usize,
-    f: usize,
-    g: usize,
-    h: usize,
-    i: usize,
-    j: usize,
-    k: usize,
-    l: usize,
-) -> usize
-    ensures { λ r. ⌜ r ≡ least a (b ∷ c ∷ d ∷ e ∷ f ∷ g ∷ h ∷ i ∷ j ∷ k ∷ l ∷ []) ⌝ }
-{
-    shorter(a, shortest_of_eleven(b, c, d, e, f, g, h, i, j, k, l))
+    lesser(a, shortest_of_nine(b, c, d, e, f, g, h, i, j))
 }
 
 // Sets every entry of four buffers to 0.
@@ -86,32 +60,20 @@ fn clear_four(a: &mut [u16], b: &mut [u16], c: &mut [u16], d: &mut [u16])
     clear(d);
 }
 
-// Of seven.
-pub fn clear_seven(
-    a: &mut [u16],
-    b: &mut [u16],
-    c: &mut [u16],
-    d: &mut [u16],
-    e: &mut [u16],
-    f: &mut [u16],
-    g: &mut [u16],
-)
-    ensures { λ _. ⌜ (now (a .exit) ∷ now (b .exit) ∷ now (c .exit) ∷ now (d .exit) ∷ now (e .exit)
-        ∷ now (f .exit) ∷ now (g .exit) ∷ [])
-        ≡ map zeros (now (a .entry) ∷ now (b .entry) ∷ now (c .entry) ∷ now (d .entry) ∷ now (e .entry)
-        ∷ now (f .entry) ∷ now (g .entry) ∷ []) ⌝ }
+// Of five.
+pub fn clear_five(a: &mut [u16], b: &mut [u16], c: &mut [u16], d: &mut [u16], e: &mut [u16])
+    ensures { λ _. ⌜ (now (a .exit) ∷ now (b .exit) ∷ now (c .exit) ∷ now (d .exit) ∷ now (e .exit) ∷ [])
+        ≡ map zeros (now (a .entry) ∷ now (b .entry) ∷ now (c .entry) ∷ now (d .entry) ∷ now (e .entry) ∷ []) ⌝ }
 {
     clear(a);
     clear(b);
     clear(c);
     clear(d);
     clear(e);
-    clear(f);
-    clear(g);
 }
 
-// Of eleven.
-pub fn clear_eleven(
+// Of nine.
+pub fn clear_nine(
     a: &mut [u16],
     b: &mut [u16],
     c: &mut [u16],
@@ -121,21 +83,18 @@ pub fn clear_eleven(
     g: &mut [u16],
     h: &mut [u16],
     i: &mut [u16],
-    j: &mut [u16],
-    k: &mut [u16],
 )
     ensures { λ _. ⌜ (now (a .exit) ∷ now (b .exit) ∷ now (c .exit) ∷ now (d .exit) ∷ now (e .exit)
-        ∷ now (f .exit) ∷ now (g .exit) ∷ now (h .exit) ∷ now (i .exit) ∷ now (j .exit) ∷ now (k .exit) ∷ [])
+        ∷ now (f .exit) ∷ now (g .exit) ∷ now (h .exit) ∷ now (i .exit) ∷ [])
         ≡ map zeros (now (a .entry) ∷ now (b .entry) ∷ now (c .entry) ∷ now (d .entry) ∷ now (e .entry)
-        ∷ now (f .entry) ∷ now (g .entry) ∷ now (h .entry) ∷ now (i .entry) ∷ now (j .entry)
-        ∷ now (k .entry) ∷ []) ⌝ }
+        ∷ now (f .entry) ∷ now (g .entry) ∷ now (h .entry) ∷ now (i .entry) ∷ []) ⌝ }
 {
     clear_four(a, b, c, d);
-    clear_seven(e, f, g, h, i, j, k);
+    clear_five(e, f, g, h, i);
 }
 
-// Of twelve.
-pub fn clear_twelve(
+// Of ten.
+pub fn clear_ten(
     a: &mut [u16],
     b: &mut [u16],
     c: &mut [u16],
@@ -146,16 +105,12 @@ pub fn clear_twelve(
     h: &mut [u16],
     i: &mut [u16],
     j: &mut [u16],
-    k: &mut [u16],
-    l: &mut [u16],
 )
     ensures { λ _. ⌜ (now (a .exit) ∷ now (b .exit) ∷ now (c .exit) ∷ now (d .exit) ∷ now (e .exit)
-        ∷ now (f .exit) ∷ now (g .exit) ∷ now (h .exit) ∷ now (i .exit) ∷ now (j .exit) ∷ now (k .exit)
-        ∷ now (l .exit) ∷ [])
+        ∷ now (f .exit) ∷ now (g .exit) ∷ now (h .exit) ∷ now (i .exit) ∷ now (j .exit) ∷ [])
         ≡ map zeros (now (a .entry) ∷ now (b .entry) ∷ now (c .entry) ∷ now (d .entry) ∷ now (e .entry)
-        ∷ now (f .entry) ∷ now (g .entry) ∷ now (h .entry) ∷ now (i .entry) ∷ now (j .entry)
-        ∷ now (k .entry) ∷ now (l .entry) ∷ []) ⌝ }
+        ∷ now (f .entry) ∷ now (g .entry) ∷ now (h .entry) ∷ now (i .entry) ∷ now (j .entry) ∷ []) ⌝ }
 {
     clear(a);
-    clear_eleven(b, c, d, e, f, g, h, i, j, k, l);
+    clear_nine(b, c, d, e, f, g, h, i, j);
 }

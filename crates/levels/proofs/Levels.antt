@@ -21,22 +21,21 @@ use Rattle.levels.proofs.Places.{places-long, places-more}
 -- ---- levels
 
 -- a role that is not 4 has a coarser mesh
-pub tried-coarser : {N : ℕ} {T coarse first link : List ℕ} {role M n : ℕ} → LevelTried N T coarse first link role M n
-    → role ≢ 4 → Coarser N T coarse role M n
-tried-coarser (found C head E) h = C
+pub tried-coarser : {N : ℕ} {T coarse ring : List ℕ} {role M n : ℕ} → LevelTried N T coarse ring role M n → role ≢ 4
+    → Coarser N T coarse role M n
+tried-coarser (found C R) h = C
 tried-coarser (none no-role) h = absurd (h refl)
 
 -- a role that is 4 says that there is none
-tried-none : {N : ℕ} {T coarse first link : List ℕ} {role M n : ℕ} → LevelTried N T coarse first link role M n
-    → role ≡ 4 → NoRole Same N T
-tried-none (found C head E) e = absurd (omega (arith, coarser-role C))
+tried-none : {N : ℕ} {T coarse ring : List ℕ} {role M n : ℕ} → LevelTried N T coarse ring role M n → role ≡ 4
+    → NoRole Same N T
+tried-none (found C R) e = absurd (omega (arith, coarser-role C))
 tried-none (none no-role) e = no-role
 
--- with its edge table, a coarser mesh that is smaller is a level
-tried-level : {N F : ℕ} {T coarse first link first′ link′ : List ℕ} {role M n : ℕ} → Level N F T first link
-    → Smaller N F coarse M n → LevelTried N T coarse first′ link′ role M n → role ≢ 4
-    → Level M n (take (3 * n) coarse) first′ link′
-tried-level L S (found C head E) h = coarser-level L S C E
+-- with the rings of its edges, a coarser mesh that is smaller is a level
+tried-level : {N F : ℕ} {T coarse ring ring′ : List ℕ} {role M n : ℕ} → Level N F T ring → Smaller N F coarse M n
+    → LevelTried N T coarse ring′ role M n → role ≢ 4 → Level M n (take (3 * n) coarse) ring′
+tried-level L S (found C R) h = coarser-level L S C R
 tried-level L S (none no-role) h = absurd (h refl)
 
 -- ---- one level more
@@ -68,14 +67,14 @@ levels-undone {allowance} {N} {role} {T = T} {out = out} {out′ = out′} {rest
 
 -- ---- the calls
 
-module _ {allowance N F : ℕ} {list coarse out mate rows first link owners marks numbers map faces table : List ℕ}
-    (L : LevelsLent allowance N F list coarse out mate rows first link owners marks numbers map faces table) where
+module _ {allowance N F : ℕ} {list coarse out other rows ring marks numbers map faces table : List ℕ}
+    (L : LevelsLent allowance N F list coarse out other rows ring marks numbers map faces table) where
   -- what `stop` is lent
   pub levels-stop : {buffer : List ℕ} → 3 * F ≤ length buffer → StopLent F buffer out
   levels-stop l = record { halves = L .level .halves; listed = l; room = L .outRoom }
 
   -- what `undo_least` is lent
-  pub levels-level : LevelLent N F (take (3 * F) list) coarse mate rows first link owners marks numbers map faces table
+  pub levels-level : LevelLent N F (take (3 * F) list) coarse other rows ring marks numbers map faces table
   levels-level = record { level = L .level; coarseRoom = L .coarseRoom; rooms = L .rooms }
 
   -- ---- no level
@@ -101,16 +100,16 @@ module _ {allowance N F : ℕ} {list coarse out mate rows first link owners mark
   levels-reached z = levels-left (rw z reached)
 
   -- no role has a reading
-  pub levels-stopped : {coarse′ first′ link′ out′ : List ℕ} {answer : Levels} {role M n : ℕ}
-      → LevelTried N (take (3 * F) list) coarse′ first′ link′ role M n → role ≡ 4 → allowance ≢ 0
+  pub levels-stopped : {coarse′ ring′ out′ : List ℕ} {answer : Levels} {role M n : ℕ}
+      → LevelTried N (take (3 * F) list) coarse′ ring′ role M n → role ≡ 4 → allowance ≢ 0
       → answer ≡ noLevel N F → out′ ≡ take (3 * F) list ++ drop (3 * F) out
       → LevelsUndone allowance N (take (3 * F) list) out out′ answer
   levels-stopped tried four more =
       let one-up : allowance ≡ suc (allowance - 1) = omega arith in
       levels-left (rw one-up (stopped (tried-none tried four)))
 
-  module _ {coarse′ first′ link′ : List ℕ} {role M n : ℕ}
-      (tried : LevelTried N (take (3 * F) list) coarse′ first′ link′ role M n) (k : length coarse′ ≡ length coarse)
+  module _ {coarse′ ring′ : List ℕ} {role M n : ℕ}
+      (tried : LevelTried N (take (3 * F) list) coarse′ ring′ role M n) (k : length coarse′ ≡ length coarse)
       (h : role ≢ 4) where
     -- the coarser mesh is smaller
     levels-smaller : Smaller N F coarse′ M n
@@ -118,12 +117,11 @@ module _ {allowance N F : ℕ} {list coarse out mate rows first link owners mark
         smaller (L .level .whole) (L .level .some) (omega (arith, L .coarseRoom)) (tried-coarser tried h)
 
     -- what the levels of the coarser mesh are lent
-    pub levels-lent : {allowance′ : ℕ} {mate′ rows′ owners′ marks′ numbers′ map′ faces′ table′ : List ℕ}
+    pub levels-lent : {allowance′ : ℕ} {other′ rows′ marks′ numbers′ map′ faces′ table′ : List ℕ}
         → allowance′ ≤ mostLevels
-        → SameLengths mate rows first link owners marks numbers map faces table
-        mate′ rows′ first′ link′ owners′ marks′ numbers′ map′ faces′ table′
-        → LevelsLent allowance′ M n coarse′ list out
-        mate′ rows′ first′ link′ owners′ marks′ numbers′ map′ faces′ table′
+        → SameLengths other rows ring marks numbers map faces table
+        other′ rows′ ring′ marks′ numbers′ map′ faces′ table′
+        → LevelsLent allowance′ M n coarse′ list out other′ rows′ ring′ marks′ numbers′ map′ faces′ table′
     levels-lent few K =
         let S = levels-smaller in
         let l : M + 3 * n ≤ N + 3 * F = omega (arith, S .fewer, S .fourth) in

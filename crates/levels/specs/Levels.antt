@@ -7,20 +7,20 @@ use Rattle.theory.specs.Limits.{mostLevels}
 use Rattle.theory.specs.Mesh.{triangles}
 use Rattle.theory.specs.Choice.{Several, sevenPlaces}
 use Rattle.theory.specs.Calls.{written}
-use Rattle.mesh.specs.Tables.{Work}
+use Rattle.rings.specs.Tables.{Work}
 use Rattle.levels.specs.Level.{Rooms, Level}
 use Rattle.levels.specs.declared.several.Levels.{Levels}
 
--- What `undo_levels` is lent: a proper mesh of F triangles on N vertices in the first entries of a list, its edge
--- table, and room.
+-- What `undo_levels` is lent: a proper mesh of F triangles on N vertices in the first entries of a list, the rings
+-- of its edges, and room.
 pub record LevelsLent (allowance N F : ℕ)
-    (list coarse out mate rows first link owners marks numbers map faces table : List ℕ) : Type 0 where
+    (list coarse out other rows ring marks numbers map faces table : List ℕ) : Type 0 where
   pub few : allowance ≤ mostLevels
-  pub level : Level N F (take (3 * F) list) first link
+  pub level : Level N F (take (3 * F) list) ring
   pub listRoom : Work N F list
   pub outRoom : 3 * F ≤ length out
   pub coarseRoom : Work N F coarse
-  pub rooms : Rooms N F mate rows first link owners marks numbers map faces table
+  pub rooms : Rooms N F other rows ring marks numbers map faces table
 
 -- The levels that document 01 names, with their roles in seven places, and the mesh that is left in `out`.
 pub record LevelsUndone (allowance N : ℕ) (T out out′ : List ℕ) (answer : Levels) : Type 0 where

@@ -1,42 +1,43 @@
 // One level of undo several.
-use mesh::edges::edge_table;
+use rings::ring::ring_table;
 use undo::cover::cover;
 use undo::roles::Least;
 use undo::roles::least_role;
+use undo::roles::no_role;
 ghost use Rattle.levels.specs.Level.{LevelLent, LevelTried};
 
-// Undoes a proper mesh, whose edge table stands in `first` and `link`, in the least role that has a reading: the
-// coarse mesh goes to `coarse`, and its edge table to `first` and `link`. Role 4 where no role has one.
+// Undoes a proper mesh, the rings of whose edges stand in `ring`, in the least role that has a reading: the coarse mesh
+// goes to `coarse`, and its rings to `ring`. Role 4 where no role has one, as where the triangles are no multiple of
+// four.
 pub(crate) fn undo_least(
     vertices: usize,
     triangles: usize,
     list: &[u16],
     coarse: &mut [u16],
-    mate: &mut [u16],
+    other: &mut [u16],
     rows: &mut [u16],
-    first: &mut [u16],
-    link: &mut [u16],
-    owner: &mut [u16],
+    ring: &mut [u16],
     marks: &mut [u16],
     numbers: &mut [u16],
     map: &mut [u16],
     faces: &mut [u16],
     table: &mut [u16],
 ) -> Least
-    requires { ⌜ LevelLent vertices triangles (now list) (now coarse) (now mate) (now rows) (now first) (now link)
-        (now owner) (now marks) (now numbers) (now map) (now faces) (now table) ⌝ }
-    ensures { λ r. ⌜ LevelTried vertices (now (list .entry)) (now (coarse .exit)) (now (first .exit))
-        (now (link .exit)) (r .role) (r .vertices) (r .triangles) ⌝ }
+    requires { ⌜ LevelLent vertices triangles (now list) (now coarse) (now other) (now rows) (now ring) (now marks)
+        (now numbers) (now map) (now faces) (now table) ⌝ }
+    ensures { λ r. ⌜ LevelTried vertices (now (list .entry)) (now (coarse .exit)) (now (ring .exit)) (r .role)
+        (r .vertices) (r .triangles) ⌝ }
 {
+    if triangles % 4 != 0 {
+        return no_role();
+    }
     cover(
         vertices,
         triangles,
         list,
-        first,
-        link,
-        mate,
+        other,
         rows,
-        owner,
+        ring,
         marks,
         coarse,
         numbers,
@@ -46,11 +47,9 @@ pub(crate) fn undo_least(
         vertices,
         triangles,
         list,
-        mate,
+        other,
         rows,
-        first,
-        link,
-        owner,
+        ring,
         marks,
         coarse,
         numbers,
@@ -61,16 +60,15 @@ pub(crate) fn undo_least(
     if least.role == 4 {
         return least;
     }
-    edge_table(
+    ring_table(
         &coarse[..3 * least.triangles],
         least.vertices,
         least.triangles,
         marks,
         numbers,
         map,
-        link,
         faces,
-        first,
+        ring,
     );
     least
 }

@@ -16,9 +16,9 @@ pub struct Levels {
     pub roles: [u8; 7],
 }
 
-// Undoes at most `allowance` levels of the proper mesh in the first entries of `list`, whose edge table stands in
-// `first` and `link`, and writes the mesh that is left to the first entries of `out`. At the next level `list` and
-// `coarse` change places.
+// Undoes at most `allowance` levels of the proper mesh in the first entries of `list`, the rings of whose edges stand
+// in `ring`, and writes the mesh that is left to the first entries of `out`. At the next level `list` and `coarse`
+// change places.
 pub fn undo_levels(
     allowance: u64,
     vertices: usize,
@@ -26,19 +26,17 @@ pub fn undo_levels(
     list: &mut [u16],
     coarse: &mut [u16],
     out: &mut [u16],
-    mate: &mut [u16],
+    other: &mut [u16],
     rows: &mut [u16],
-    first: &mut [u16],
-    link: &mut [u16],
-    owner: &mut [u16],
+    ring: &mut [u16],
     marks: &mut [u16],
     numbers: &mut [u16],
     map: &mut [u16],
     faces: &mut [u16],
     table: &mut [u16],
 ) -> Levels
-    requires { ⌜ LevelsLent allowance vertices triangles (now list) (now coarse) (now out) (now mate) (now rows)
-        (now first) (now link) (now owner) (now marks) (now numbers) (now map) (now faces) (now table) ⌝ }
+    requires { ⌜ LevelsLent allowance vertices triangles (now list) (now coarse) (now out) (now other) (now rows)
+        (now ring) (now marks) (now numbers) (now map) (now faces) (now table) ⌝ }
     ensures { λ r. ⌜ LevelsUndone allowance vertices (take (3 * triangles) (now (list .entry))) (now (out .entry))
         (now (out .exit)) r ⌝ }
 {
@@ -50,11 +48,9 @@ pub fn undo_levels(
         triangles,
         &list[..3 * triangles],
         coarse,
-        mate,
+        other,
         rows,
-        first,
-        link,
-        owner,
+        ring,
         marks,
         numbers,
         map,
@@ -71,11 +67,9 @@ pub fn undo_levels(
         coarse,
         list,
         out,
-        mate,
+        other,
         rows,
-        first,
-        link,
-        owner,
+        ring,
         marks,
         numbers,
         map,

@@ -1,6 +1,4 @@
 -- What the loops over lists do.
-pub mod Chains
-pub mod Pairs
 pub mod Places
 pub mod Tables
 pub mod Marks

@@ -1,8 +1,8 @@
-// Small loops over slices of 16-bit entries: an entry as an index, fill and copy, ranks of marked indices, values at
-// their keys, chains of equal keys, and the least index with the same pair of keys. It knows nothing of meshes, takes
-// time linear in the numbers that it is given, and assumes nothing.
+// Small loops over slices of 16-bit entries: an entry as an index, the lesser of two numbers, fill and copy, ranks of
+// marked indices, and values at their keys. It knows nothing of meshes, takes time linear in the numbers that it is
+// given, and assumes nothing.
 ghost use mathlib.Core.Path.{_≡_};
-ghost use Prim.Native.Nat.{_<_, _≤_};
+ghost use Prim.Native.Nat.{_<_, _≤_, min};
 ghost use mathlib.Core.List.{_++_};
 ghost use lib.ListN.{length, take, drop, replicate};
 ghost use Rattle.theory.specs.Mesh.{at};
@@ -11,8 +11,6 @@ ghost use Rattle.lists.specs.Places.{Place};
 ghost use Rattle.lists.specs.Tables.{Tabulated};
 ghost use Rattle.lists.specs.Marks.{bitOf, RanksLent, RanksOf};
 ghost use Rattle.lists.specs.Keys.{KeysLent, InvertLent, Scattered, Holds};
-ghost use Rattle.lists.specs.Chains.{ChainLent, Chained};
-ghost use Rattle.lists.specs.Pairs.{PairsLent, FirstPairs, Leads, WalkLent, Walked};
 
 // The entry of `s` at index `i`, as an index.
 pub fn at(s: &[u16], i: usize) -> usize
@@ -20,6 +18,13 @@ pub fn at(s: &[u16], i: usize) -> usize
     ensures { λ r. ⌜ r ≡ at (now (s .entry)) i ⌝ }
 {
     s[i] as usize
+}
+
+// The lesser of two numbers.
+pub fn lesser(a: usize, b: usize) -> usize
+    ensures { λ r. ⌜ r ≡ min a b ⌝ }
+{
+    if a < b { a } else { b }
 }
 
 // Sets the first `n` entries of `s` to `value`.
@@ -158,94 +163,4 @@ pub fn inverts(keys: &[u16], n: usize, table: &[u16]) -> bool
         p += 1;
     }
     true
-}
-
-// Chains the indices below `n` by their keys, which are below `m`: `head[u]` is the least index that holds the key u,
-// and `link[h]` the least one after h that holds h's key, each `n` where there is none.
-pub fn chain(keys: &[u16], m: usize, n: usize, head: &mut [u16], link: &mut [u16])
-    requires { ⌜ ChainLent (now keys) m n (now head) (now link) ⌝ }
-    ensures { λ _. ⌜ Chained (now (keys .entry)) m n (now (head .exit)) (now (link .exit)) ⌝ }
-{
-    fill(head, m, n as u16);
-    link_back(keys, m, n, head, link);
-}
-
-// The chains, from heads that are all `n`: from the last index to the first, each is put in front of its key's chain.
-fn link_back(keys: &[u16], m: usize, n: usize, head: &mut [u16], link: &mut [u16])
-    requires { ⌜ ChainLent (now keys) m n (now head) (now link) ⌝ }
-    requires { ⌜ take m (now head) ≡ replicate m n ⌝ }
-    ensures { λ _. ⌜ Chained (now (keys .entry)) m n (now (head .exit)) (now (link .exit)) ⌝ }
-{
-    let mut h = n;
-    while 0 < h {
-        h -= 1;
-        let key = at(keys, h);
-        link[h] = head[key];
-        head[key] = h as u16;
-    }
-}
-
-// For each index h below `n` the least index with the same key and the same other key goes to `least[h]`. `head` and
-// `link` are the chains of `keys`; what `seen` holds at first does not matter.
-pub fn pairs(
-    keys: &[u16],
-    others: &[u16],
-    m: usize,
-    n: usize,
-    head: &[u16],
-    link: &[u16],
-    seen: &mut [u16],
-    least: &mut [u16],
-)
-    requires { ⌜ PairsLent (now keys) (now others) m n (now head) (now link) (now seen) (now least) ⌝ }
-    ensures { λ _. ⌜ FirstPairs (now (keys .entry)) (now (others .entry)) n (now (least .exit)) ⌝ }
-{
-    let mut u = 0;
-    while u < m {
-        walk(at(head, u), n, keys, others, link, seen, least);
-        u += 1;
-    }
-}
-
-// The same along one chain, from the index `start`. `seen[x]` is the first index of the chain so far whose other key
-// is x; an entry counts only if it stands before h and has h's keys, so nothing is cleared between chains.
-fn walk(
-    start: usize,
-    n: usize,
-    keys: &[u16],
-    others: &[u16],
-    link: &[u16],
-    seen: &mut [u16],
-    least: &mut [u16],
-)
-    requires { ⌜ WalkLent (now keys) (now others) start n (now link) (now seen) (now least) ⌝ }
-    ensures { λ _. ⌜ Walked (now (keys .entry)) (now (others .entry)) start n (now (least .entry))
-        (now (least .exit)) ⌝ }
-{
-    let mut h = start;
-    while h < n {
-        let x = at(others, h);
-        let first = leader(keys, others, at(seen, x), h);
-        seen[x] = first as u16;
-        least[h] = first as u16;
-        h = at(link, h);
-    }
-}
-
-// `candidate`, if it stands before h and has the same two keys; else h.
-fn leader(keys: &[u16], others: &[u16], candidate: usize, h: usize) -> usize
-    requires { do ⌜ h < (← ⟦keys.len()⟧) ⌝ }
-    requires { do ⌜ h < (← ⟦others.len()⟧) ⌝ }
-    ensures { λ r. ⌜ Leads (now (keys .entry)) (now (others .entry)) candidate h r ⌝ }
-{
-    if h <= candidate {
-        return h;
-    }
-    if keys[candidate] != keys[h] {
-        return h;
-    }
-    if others[candidate] != others[h] {
-        return h;
-    }
-    candidate
 }

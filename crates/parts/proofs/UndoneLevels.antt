@@ -9,12 +9,14 @@ use lib.ListN.{length, take, drop}
 use lib.Seq.{take-length}
 use Rattle.theory.specs.Limits.{mostLevels}
 use Rattle.theory.specs.Mesh.{triangles}
+use Rattle.theory.specs.Splitting.{firstOn}
 use Rattle.theory.specs.Choice.{sevenPlaces}
 use Rattle.theory.specs.Refusals.{meshRules, Passed}
 use Rattle.theory.specs.Calls.{SeveralAnswer, refusal, accepted, undoSeveralRooms}
 use Rattle.lists.proofs.Lists.{take-copied}
 use Rattle.limits.proofs.Rules.{judged-refused, none-short-fits}
-use Rattle.mesh.specs.Tables.{Work, EdgeTable}
+use Rattle.rings.specs.Tables.{Work}
+use Rattle.rings.specs.Ring.{RingBy}
 use Rattle.judge.specs.Judging.{MeshJudged}
 use Rattle.levels.specs.Levels.{LevelsLent, LevelsUndone}
 use Rattle.levels.specs.declared.several.Levels.{Levels}
@@ -27,8 +29,7 @@ use Rattle.parts.proofs.Rooms.{Buffers, SameLengths, Housed, housed-kep
 -- The work buffers in the order in which the call lends them: that of the list's copy, then those of both undo calls.
 abbrev pub works : List ℕ → Buffers → List (List ℕ)
 works current b =
-    current ∷ b .coarse ∷ b .mate ∷ b .rows ∷ b .first ∷ b .link ∷ b .owner ∷ b .marks ∷ b .numbers ∷ b .map ∷ b .faces
-    ∷ b .table ∷ []
+    current ∷ b .coarse ∷ b .other ∷ b .rows ∷ b .ring ∷ b .marks ∷ b .numbers ∷ b .map ∷ b .faces ∷ b .table ∷ []
 
 -- A number asked and a list that have been judged, and enough room.
 pub record Enough (N : ℕ) (T : List ℕ) (asked : ℕ) (out current : List ℕ) (b : Buffers) : Type 0 where
@@ -53,16 +54,14 @@ enough-lent {N} {T} {asked} {out} {current} b L =
         low = L .low;
         coarse = record { room = r .1 .1 .0 };
         rooms = record {
-          mateRoom = record { room = r .1 .1 .1 .0 };
+          otherRoom = record { room = r .1 .1 .1 .0 };
           rowsRoom = record { room = r .1 .1 .1 .1 .0 };
-          firstRoom = record { room = r .1 .1 .1 .1 .1 .0 };
-          linkRoom = record { room = r .1 .1 .1 .1 .1 .1 .0 };
-          ownersRoom = record { room = r .1 .1 .1 .1 .1 .1 .1 .0 };
-          marksRoom = record { room = r .1 .1 .1 .1 .1 .1 .1 .1 .0 };
-          numbersRoom = record { room = r .1 .1 .1 .1 .1 .1 .1 .1 .1 .0 };
-          mapRoom = record { room = r .1 .1 .1 .1 .1 .1 .1 .1 .1 .1 .0 };
-          facesRoom = record { room = r .1 .1 .1 .1 .1 .1 .1 .1 .1 .1 .1 .0 };
-          tableRoom = record { room = r .1 .1 .1 .1 .1 .1 .1 .1 .1 .1 .1 .1 .0 };
+          ringRoom = record { room = r .1 .1 .1 .1 .1 .0 };
+          marksRoom = record { room = r .1 .1 .1 .1 .1 .1 .0 };
+          numbersRoom = record { room = r .1 .1 .1 .1 .1 .1 .1 .0 };
+          mapRoom = record { room = r .1 .1 .1 .1 .1 .1 .1 .1 .0 };
+          facesRoom = record { room = r .1 .1 .1 .1 .1 .1 .1 .1 .1 .0 };
+          tableRoom = record { room = r .1 .1 .1 .1 .1 .1 .1 .1 .1 .1 .0 };
         };
       };
     }
@@ -80,8 +79,8 @@ enough-kept K E = record {
 -- ---- what is refused
 
 -- a mesh that is not proper
-pub refusing : {N : ℕ} {T : List ℕ} {asked : ℕ} {out : List ℕ} {answer : SeveralAnswer} {head link first : List ℕ}
-    {number place : ℕ} → MeshJudged N (triangles T) T head link first number place → number ≢ 0
+pub refusing : {N : ℕ} {T : List ℕ} {asked : ℕ} {out : List ℕ} {answer : SeveralAnswer} {ring : List ℕ}
+    {number place : ℕ} → MeshJudged N (triangles T) T ring number place → number ≢ 0
     → answer ≡ record { common = refusal number place; levels = 0; roles = sevenPlaces [] }
     → UndoesLevels N T asked out answer out
 refusing {number = number} {place} judged n said =
@@ -104,13 +103,13 @@ module _ {N : ℕ} {T : List ℕ} {asked : ℕ} {out current : List ℕ} {b : Bu
         ∙ ap (λ (n : ℕ). take n T) (sym (E .housed .whole)) ∙ take-length T
 
     -- what `undo_levels` requires
-    pub levels-lent : {head : List ℕ} → length current′ ≡ length current → Passed (meshRules N T)
-        → EdgeTable (triangles T) T head (b .link) (b .first)
-        → LevelsLent asked N (triangles T) current′ (b .coarse) out (b .mate) (b .rows) (b .first) (b .link) (b .owner)
-        (b .marks) (b .numbers) (b .map) (b .faces) (b .table)
-    levels-lent kept passed edges = record {
+    pub levels-lent : length current′ ≡ length current → Passed (meshRules N T)
+        → RingBy (3 * triangles T) (firstOn T) (b .ring)
+        → LevelsLent asked N (triangles T) current′ (b .coarse) out (b .other) (b .rows) (b .ring) (b .marks)
+        (b .numbers) (b .map) (b .faces) (b .table)
+    levels-lent kept passed ringed = record {
       few = E .known;
-      level = rw copied-list (housed-level (E .housed) passed edges);
+      level = rw copied-list (housed-level (E .housed) passed ringed);
       listRoom = work-kept (omega arith) (E .currentRoom) kept;
       outRoom = E .outRoom;
       coarseRoom = E .housed .coarse;

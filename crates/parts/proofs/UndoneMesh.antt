@@ -1,37 +1,39 @@
 -- The work of undo one: what `cover`, `chosen_role` and `write_reading` are lent, each from what the call is lent and
 -- from those before, and what the call comes to.
-use Prim.Native.Nat.{ℕ, _*_, _/_, _≤_}
+use Prim.Native.Nat.{ℕ, _*_, _/_, _%_, _≤_}
 use native.Mathlib.Omega.{arith}
+use native.Mathlib.Decide.{ℕ-discrete}
 use mathlib.Core.Path.{_≡_, refl, ap, _∙_}
 use mathlib.Core.Logic.{_≢_, inl}
 use mathlib.Core.List.{List, [], _∷_, _++_}
 use lib.ListN.{length, take, drop, length-take}
 use lib.Seq.{length-take-le}
 use Rattle.theory.specs.Mesh.{triangles, Same}
+use Rattle.theory.specs.Splitting.{firstOn}
 use Rattle.theory.specs.Reading.{Returned}
-use Rattle.theory.specs.Choice.{NoneChosen}
+use Rattle.theory.specs.Choice.{NoRole, NoneChosen}
 use Rattle.theory.specs.Refusals.{noReading, meshRules, Passed, Refused}
 use Rattle.theory.specs.Calls.{OneAnswer, Outputs, refusal, accepted, undoOneRooms}
 use Rattle.theory.proofs.Determined.{role-within, chosen-not-refused, quarter}
-use Rattle.mesh.specs.Tables.{EdgeTable}
+use Rattle.rings.specs.Ring.{RingBy}
 use Rattle.judge.specs.Judging.{MeshJudged}
 use Rattle.limits.proofs.Judgement.{judged-front}
 use Rattle.limits.proofs.Rules.{judged-refused, refused-back, passed-back, none-short-fits}
 use Rattle.undo.specs.Cover.{CoverLent, CoverMade}
 use Rattle.undo.specs.Choices.{ChoiceLent, ChosenTried, found, none}
-use Rattle.levels.proofs.Level.{level-cover}
+use Rattle.undo.proofs.Uneven.{uneven-none}
+use Rattle.levels.proofs.Level.{level-cover, role-lent}
 use Rattle.parts.specs.Answers.{outputs}
 use Rattle.parts.specs.Undoing.{UndoLent, UndoesMesh, refuses, accepts}
 use Rattle.parts.specs.Undoing.{readingIn, ReadingLent, ReadingWritten, RoleAnswered}
-use Rattle.parts.proofs.Rooms.{Buffers, SameLengths, Housed, housed-kept, housed-proper, housed-level}
+use Rattle.parts.proofs.Rooms.{Buffers, SameLengths, Housed, housed-kept, housed-level}
 
 -- ---- room
 
 -- The work buffers in the order in which the call lends them.
 abbrev pub works : Buffers → List (List ℕ)
 works b =
-    b .mate ∷ b .rows ∷ b .first ∷ b .link ∷ b .owner ∷ b .marks ∷ b .coarse ∷ b .numbers ∷ b .map ∷ b .faces
-    ∷ b .table ∷ []
+    b .other ∷ b .rows ∷ b .ring ∷ b .marks ∷ b .coarse ∷ b .numbers ∷ b .map ∷ b .faces ∷ b .table ∷ []
 
 -- A number asked and a list that have been judged, and enough room.
 pub record Enough (N : ℕ) (T : List ℕ) (asked : ℕ) (out : Outputs) (b : Buffers) : Type 0 where
@@ -56,18 +58,16 @@ enough-lent {N} {T} {asked} {out} b L =
         some = L .some;
         few = L .few;
         low = L .low;
-        coarse = record { room = r .1 .1 .1 .1 .1 .1 .1 .1 .1 .0 };
+        coarse = record { room = r .1 .1 .1 .1 .1 .1 .1 .0 };
         rooms = record {
-          mateRoom = record { room = r .1 .1 .1 .0 };
+          otherRoom = record { room = r .1 .1 .1 .0 };
           rowsRoom = record { room = r .1 .1 .1 .1 .0 };
-          firstRoom = record { room = r .1 .1 .1 .1 .1 .0 };
-          linkRoom = record { room = r .1 .1 .1 .1 .1 .1 .0 };
-          ownersRoom = record { room = r .1 .1 .1 .1 .1 .1 .1 .0 };
-          marksRoom = record { room = r .1 .1 .1 .1 .1 .1 .1 .1 .0 };
-          numbersRoom = record { room = r .1 .1 .1 .1 .1 .1 .1 .1 .1 .1 .0 };
-          mapRoom = record { room = r .1 .1 .1 .1 .1 .1 .1 .1 .1 .1 .1 .0 };
-          facesRoom = record { room = r .1 .1 .1 .1 .1 .1 .1 .1 .1 .1 .1 .1 .0 };
-          tableRoom = record { room = r .1 .1 .1 .1 .1 .1 .1 .1 .1 .1 .1 .1 .1 .0 };
+          ringRoom = record { room = r .1 .1 .1 .1 .1 .0 };
+          marksRoom = record { room = r .1 .1 .1 .1 .1 .1 .0 };
+          numbersRoom = record { room = r .1 .1 .1 .1 .1 .1 .1 .1 .0 };
+          mapRoom = record { room = r .1 .1 .1 .1 .1 .1 .1 .1 .1 .0 };
+          facesRoom = record { room = r .1 .1 .1 .1 .1 .1 .1 .1 .1 .1 .0 };
+          tableRoom = record { room = r .1 .1 .1 .1 .1 .1 .1 .1 .1 .1 .1 .0 };
         };
       };
     }
@@ -85,10 +85,16 @@ enough-kept K E = record {
 
 -- ---- what is refused
 
+-- where no role has a reading, none is chosen
+none-chosen : {N : ℕ} {T : List ℕ} {asked : ℕ} → asked ≤ 4 → NoRole Same N T → NoneChosen N T asked
+none-chosen {asked = asked} known R = elim (ℕ-discrete asked 4) [
+  | yes e ↦ rw e (NoneChosen.least R)
+  | no other ↦ NoneChosen.named {role = asked} (omega (arith, other)) (R .none asked)
+]
+
 module _ {N : ℕ} {T : List ℕ} {asked : ℕ} {out : Outputs} {answer : OneAnswer} where
   -- a mesh that is not proper
-  pub refusing : {head link first : List ℕ} {number place : ℕ}
-      → MeshJudged N (triangles T) T head link first number place → number ≢ 0
+  pub refusing : {ring : List ℕ} {number place : ℕ} → MeshJudged N (triangles T) T ring number place → number ≢ 0
       → answer ≡ record { common = refusal number place; role = 0 } → UndoesMesh N T asked out answer out
   refusing {number = number} {place} judged n said =
       refuses number place (judged-refused (judged-front (noReading N T asked ∷ []) (judged .verdict) n) n) said refl
@@ -103,57 +109,33 @@ module _ {N : ℕ} {T : List ℕ} {asked : ℕ} {out : Outputs} {answer : OneAns
       (inl (refl, record { here = (c, refl); before = λ earlier l. absurd (omega arith) })))
       said left
 
+  -- such as one whose triangles are no multiple of four
+  pub uneven : {b : Buffers} → Enough N T asked out b → Passed (meshRules N T) → triangles T % 4 ≢ 0
+      → answer ≡ record { common = refusal 11 0; role = 0 } → UndoesMesh N T asked out answer out
+  uneven E passed n said =
+      without passed (none-chosen (E .known) (uneven-none (triangles T) (E .housed .whole) n)) said refl
+
 -- ---- what is lent
 
 module _ {N : ℕ} {T : List ℕ} {asked : ℕ} {out : Outputs} (b : Buffers) (E : Enough N T asked out b) where
-  module _ (passed : Passed (meshRules N T)) where
-    -- what `cover` requires
-    pub coverable : {head : List ℕ} → EdgeTable (triangles T) T head (b .link) (b .first)
-        → CoverLent N (triangles T) T (b .first) (b .link) (b .mate) (b .rows) (b .owner) (b .marks) (b .coarse)
-        (b .numbers) (b .map)
-    coverable edges = level-cover (record {
-      level = housed-level (E .housed) passed edges;
-      coarseRoom = E .housed .coarse;
-      rooms = E .housed .rooms;
-    })
+  -- what `cover` requires
+  pub coverable : Passed (meshRules N T) → RingBy (3 * triangles T) (firstOn T) (b .ring)
+      → CoverLent N (triangles T) T (b .other) (b .rows) (b .ring) (b .marks) (b .coarse) (b .numbers) (b .map)
+  coverable passed ringed = level-cover (record {
+    level = housed-level (E .housed) passed ringed;
+    coarseRoom = E .housed .coarse;
+    rooms = E .housed .rooms;
+  })
 
-    -- what `chosen_role` requires
-    pub choosable : CoverMade (triangles T) T (b .first) (b .link) (b .mate) (b .rows) (b .owner)
-        → ChoiceLent asked N (triangles T) T (b .mate) (b .rows) (b .first) (b .link) (b .owner) (b .marks) (b .coarse)
-        (b .numbers) (b .map) (b .faces) (b .table)
-    choosable made = record {
-      known = E .known;
-      lent = record {
-        isRole = omega arith;
-        proper = housed-proper (E .housed) passed;
-        whole = E .housed .whole;
-        some = E .housed .some;
-        small = omega (arith, E .housed .few, E .housed .low);
-        halves = omega (arith, E .housed .few);
-        firstT = made .firstT;
-        thirds = made .thirds;
-        firsts = made .firsts;
-        mated = made .mated;
-        tabled = made .tabled;
-        rowed = made .rows;
-        rowFirsts = made .table .firsts;
-        links = made .table .chained .links;
-        owned = made .owned;
-        mateRoom = omega (arith, E .housed .rooms .mateRoom);
-        rowsRoom = omega (arith, E .housed .rooms .rowsRoom);
-        firstRoom = omega (arith, E .housed .rooms .firstRoom);
-        linkRoom = omega (arith, E .housed .rooms .linkRoom);
-        ownersRoom = omega (arith, E .housed .rooms .ownersRoom);
-        rooms = record {
-          marksRoom = E .housed .rooms .marksRoom .room;
-          coarseRoom = E .housed .coarse .room;
-          numbersRoom = E .housed .rooms .numbersRoom .room;
-          mapRoom = E .housed .rooms .mapRoom .room;
-          facesRoom = E .housed .rooms .facesRoom .room;
-          tableRoom = E .housed .rooms .tableRoom .room;
-        };
-      };
-    }
+  -- what `chosen_role` requires, once the covering mesh is made
+  pub choosable : {ring : List ℕ} → Passed (meshRules N T) → RingBy (3 * triangles T) (firstOn T) ring
+      → CoverMade (triangles T) T (b .other) (b .rows) (b .ring)
+      → ChoiceLent asked N (triangles T) T (b .other) (b .rows) (b .ring) (b .marks) (b .coarse) (b .numbers) (b .map)
+      (b .faces) (b .table)
+  choosable passed ringed made = record {
+    known = E .known;
+    lent = role-lent (housed-level (E .housed) passed ringed) (E .housed .coarse) (E .housed .rooms) made;
+  }
 
   -- the coarse mesh has a quarter of the triangles
   quartered : {role M : ℕ} (n : ℕ)

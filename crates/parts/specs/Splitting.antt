@@ -8,18 +8,16 @@ use Rattle.theory.specs.Mesh.{triangles}
 use Rattle.theory.specs.Splitting.{edges, split}
 use Rattle.theory.specs.Refusals.{meshRules, Passed, Refused}
 use Rattle.theory.specs.Calls.{Answer, refusal, accepted, written}
-use Rattle.mesh.specs.Tables.{Work}
+use Rattle.rings.specs.Tables.{Work}
 
--- A list whose sizes and room have been judged, and seven work buffers.
-pub record SplitLent (N : ℕ) (T out head link first work1 work2 work3 work4 : List ℕ) : Type 0 where
+-- A list whose sizes and room have been judged, and five work buffers.
+pub record SplitLent (N : ℕ) (T out ring work1 work2 work3 work4 : List ℕ) : Type 0 where
   pub whole : length T ≡ 3 * triangles T
   pub some : 0 < triangles T
   pub few : triangles T ≤ mostSplitTriangles
   pub low : N ≤ mostVertices
   pub room : 12 * triangles T ≤ length out
-  pub headRoom : Work N (triangles T) head
-  pub linkRoom : Work N (triangles T) link
-  pub firstRoom : Work N (triangles T) first
+  pub ringRoom : Work N (triangles T) ring
   pub work1Room : Work N (triangles T) work1
   pub work2Room : Work N (triangles T) work2
   pub work3Room : Work N (triangles T) work3

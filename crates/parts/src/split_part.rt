@@ -13,35 +13,22 @@ pub fn split_mesh(
     vertices: usize,
     list: &[u16],
     out: &mut [u16],
-    head: &mut [u16],
-    link: &mut [u16],
-    first: &mut [u16],
+    ring: &mut [u16],
     work1: &mut [u16],
     work2: &mut [u16],
     work3: &mut [u16],
     work4: &mut [u16],
 ) -> Answer
-    requires { ⌜ SplitLent vertices (now list) (now out) (now head) (now link) (now first) (now work1) (now work2)
-        (now work3) (now work4) ⌝ }
+    requires { ⌜ SplitLent vertices (now list) (now out) (now ring) (now work1) (now work2) (now work3)
+        (now work4) ⌝ }
     ensures { λ r. ⌜ SplitsMesh vertices (now (list .entry)) (now (out .entry)) (answerOf r) (now (out .exit)) ⌝ }
 {
     let triangles = list.len() / 3;
-    let verdict = judge(
-        list,
-        vertices,
-        triangles,
-        head,
-        link,
-        first,
-        work1,
-        work2,
-        work3,
-        work4,
-    );
+    let verdict = judge(list, vertices, triangles, ring, work1, work2, work3, work4);
     if verdict.number != 0 {
         return refused(verdict.number, verdict.place);
     }
-    let edges = number_edges(vertices, 3 * triangles, first, work1);
+    let edges = number_edges(vertices, 3 * triangles, ring, work1);
     write_fours(list, triangles, work1, out);
     accepted(vertices + edges, 4 * triangles)
 }

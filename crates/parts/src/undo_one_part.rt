@@ -12,8 +12,8 @@ ghost use Rattle.parts.specs.Answers.{oneAnswerOf, outputs};
 ghost use Rattle.parts.specs.Undoing.{UndoLent, UndoesMesh};
 ghost use Rattle.parts.specs.Undoing.{readingIn, ReadingLent, ReadingWritten, RoleAnswered};
 
-// Judges 6 to 10, makes the covering mesh and takes the role asked, or the least; gives 11 or writes the reading. It
-// leaves in the work buffers what it pleases.
+// Judges 6 to 10, makes the covering mesh and takes the role asked, or the least; gives 11 or writes the reading. No
+// role has one where the triangles are no multiple of four. It leaves in the work buffers what it pleases.
 pub fn undo_mesh(
     vertices: usize,
     list: &[u16],
@@ -21,11 +21,9 @@ pub fn undo_mesh(
     mesh: &mut [u16],
     vertex_map: &mut [u16],
     triangle_map: &mut [u16],
-    mate: &mut [u16],
+    other: &mut [u16],
     rows: &mut [u16],
-    first: &mut [u16],
-    link: &mut [u16],
-    owner: &mut [u16],
+    ring: &mut [u16],
     marks: &mut [u16],
     coarse: &mut [u16],
     numbers: &mut [u16],
@@ -34,38 +32,28 @@ pub fn undo_mesh(
     table: &mut [u16],
 ) -> OneAnswer
     requires { ⌜ UndoLent vertices (now list) asked (outputs (now mesh) (now «vertex_map») (now «triangle_map»))
-        (now mate ∷ now rows ∷ now first ∷ now link ∷ now owner ∷ now marks ∷ now coarse ∷ now numbers ∷ now map
-        ∷ now faces ∷ now table ∷ []) ⌝ }
+        (now other ∷ now rows ∷ now ring ∷ now marks ∷ now coarse ∷ now numbers ∷ now map ∷ now faces ∷ now table
+        ∷ []) ⌝ }
     ensures { λ r. ⌜ UndoesMesh vertices (now (list .entry)) asked
         (outputs (now (mesh .entry)) (now («vertex_map» .entry)) (now («triangle_map» .entry)))
         (oneAnswerOf r)
         (outputs (now (mesh .exit)) (now («vertex_map» .exit)) (now («triangle_map» .exit))) ⌝ }
 {
     let triangles = list.len() / 3;
-    let verdict = judge(
-        list,
-        vertices,
-        triangles,
-        marks,
-        link,
-        first,
-        coarse,
-        numbers,
-        map,
-        table,
-    );
+    let verdict = judge(list, vertices, triangles, ring, marks, coarse, numbers, map);
     if verdict.number != 0 {
         return refused_one(verdict.number, verdict.place);
+    }
+    if triangles % 4 != 0 {
+        return refused_one(11, 0);
     }
     cover(
         vertices,
         triangles,
         list,
-        first,
-        link,
-        mate,
+        other,
         rows,
-        owner,
+        ring,
         marks,
         coarse,
         numbers,
@@ -76,11 +64,9 @@ pub fn undo_mesh(
         vertices,
         triangles,
         list,
-        mate,
+        other,
         rows,
-        first,
-        link,
-        owner,
+        ring,
         marks,
         coarse,
         numbers,

@@ -17,11 +17,9 @@ pub fn undo_mesh_levels(
     out: &mut [u16],
     current: &mut [u16],
     coarse: &mut [u16],
-    mate: &mut [u16],
+    other: &mut [u16],
     rows: &mut [u16],
-    first: &mut [u16],
-    link: &mut [u16],
-    owner: &mut [u16],
+    ring: &mut [u16],
     marks: &mut [u16],
     numbers: &mut [u16],
     map: &mut [u16],
@@ -29,24 +27,13 @@ pub fn undo_mesh_levels(
     table: &mut [u16],
 ) -> SeveralAnswer
     requires { ⌜ SeveralLent vertices (now list) asked (now out)
-        (now current ∷ now coarse ∷ now mate ∷ now rows ∷ now first ∷ now link ∷ now owner ∷ now marks
-        ∷ now numbers ∷ now map ∷ now faces ∷ now table ∷ []) ⌝ }
+        (now current ∷ now coarse ∷ now other ∷ now rows ∷ now ring ∷ now marks ∷ now numbers ∷ now map
+        ∷ now faces ∷ now table ∷ []) ⌝ }
     ensures { λ r. ⌜ UndoesLevels vertices (now (list .entry)) asked (now (out .entry)) (severalAnswerOf r)
         (now (out .exit)) ⌝ }
 {
     let triangles = list.len() / 3;
-    let verdict = judge(
-        list,
-        vertices,
-        triangles,
-        marks,
-        link,
-        first,
-        coarse,
-        numbers,
-        map,
-        table,
-    );
+    let verdict = judge(list, vertices, triangles, ring, marks, coarse, numbers, map);
     if verdict.number != 0 {
         return refused_several(verdict.number, verdict.place);
     }
@@ -58,11 +45,9 @@ pub fn undo_mesh_levels(
         current,
         coarse,
         out,
-        mate,
+        other,
         rows,
-        first,
-        link,
-        owner,
+        ring,
         marks,
         numbers,
         map,

@@ -1,39 +1,68 @@
--- The numbers that `number_edges` leaves are those of the splitting's edge vertices, where it was lent the table of
--- first appearances, and what it answers is how many edges there are.
-use Prim.Native.Nat.{ℕ, _≤_, _<_}
+-- Laws for numbering the edges along their rings, and what follows from the numbers that `number_edges` leaves.
+use Prim.Native.Nat.{ℕ, _+_, _≤_, _<_}
 use native.Mathlib.Omega.{arith}
-use mathlib.Core.Path.{_≡_, _∙_, ap, sym}
+use mathlib.Core.Path.{_≡_, _∙_, sym}
+use mathlib.Core.Logic.{_≢_}
 use mathlib.Core.List.{List}
 use lib.ListN.{length}
+use borrow.Author.Tests.{eq-eqb, ne-eqb}
+use Rattle.theory.specs.Mesh.{at}
 use Rattle.theory.specs.Counting.{count}
 use Rattle.theory.specs.Splitting.{firstOn, isFirst, edges, edgeNo}
-use Rattle.theory.proofs.Counting.{count-cong, count-le}
-use Rattle.theory.proofs.Splitting.{firstOn-le}
-use Rattle.lists.specs.Tables.{Tabulated}
-use Rattle.split.specs.Numbers.{leads, Numbered}
+use Rattle.theory.proofs.Counting.{count-passes, count-fails}
+use Rattle.theory.proofs.Splitting as splitting
+use Rattle.theory.proofs.Splitting.{firstOn-same, firstOn-cong, edgeNo-below}
+use Rattle.lists.proofs.Lists.{by-lt}
+use Rattle.rings.specs.Ring.{RingBy}
+use Rattle.split.specs.Numbers.{Numbered}
+
+-- one half-edge behind h with its key, and none of its key between, is the one that follows h
+pub follows-next : {n : ℕ} {key : ℕ → ℕ} {ring : List ℕ} → RingBy n key ring → (h g : ℕ) → h < g → g < n → key g ≡ key h
+    → ((f : ℕ) → h < f → f < g → key f ≡ key g → ⊥) → g ≡ at ring h
+follows-next {ring = ring} R h g b l e between =
+    let F = R .follows h (omega arith) in
+    by-lt h (at ring h)
+    (λ up.
+    by-lt g (at ring h) (λ c. absurd (F .next up g b c e))
+    (λ c. by-lt (at ring h) g (λ d. absurd (between (at ring h) up d (F .same ∙ sym e))) (λ d. omega arith)))
+    (λ down. absurd (F .last down g b l e))
+
+module _ (N : ℕ) (T : List ℕ) where
+  -- half-edges with one first appearance have one number
+  pub edgeNo-first : (g h : ℕ) → firstOn T g ≡ firstOn T h → edgeNo N T g ≡ edgeNo N T h
+  unfolding edgeNo
+  edgeNo-first g h e = rw e
+
+  -- the first half-edge of an edge has as many edges before it as its number says
+  pub edgeNo-own : (h : ℕ) → firstOn T h ≡ h → edgeNo N T h ≡ N + count (isFirst T) h
+  unfolding edgeNo
+  edgeNo-own h e = rw e
+
+  -- no edge's number says that there is none
+  pub edgeNo-given : (h : ℕ) → h < length T → edgeNo N T h ≢ N + length T
+  edgeNo-given h l e = omega (arith, edgeNo-below N T h l, splitting.edges-le N T)
+
+module _ (T : List ℕ) where
+  -- a first appearance is its own
+  pub firstOn-own : (h : ℕ) → firstOn T h ≡ firstOn T (firstOn T h)
+  firstOn-own h = sym (firstOn-cong T (firstOn T h) h (firstOn-same T h))
+
+  -- an edge counts at its first half-edge
+  pub counted : (h : ℕ) → firstOn T h ≡ h → count (isFirst T) (h + 1) ≡ count (isFirst T) h + 1
+  unfolding isFirst
+  counted h e = count-passes (isFirst T) h (eq-eqb (firstOn T h) h e)
+
+  -- and at no other
+  pub uncounted : (h : ℕ) → firstOn T h ≢ h → count (isFirst T) (h + 1) ≡ count (isFirst T) h
+  unfolding isFirst
+  uncounted h ne = count-fails (isFirst T) h (ne-eqb (firstOn T h) h ne)
+
+  -- all are counted at the end
+  pub edges-all : {n : ℕ} → length T ≡ n → count (isFirst T) n ≡ edges T
+  unfolding edges
+  edges-all whole = rw whole
 
 -- there are no more edges than half-edges
-pub edges-le : {M n E : ℕ} {first numbers : List ℕ} → Numbered M n first E numbers → E ≤ n
-edges-le {n = n} {first = first} D = omega (arith, D .total, count-le (leads first) n)
-
-module _ (T : List ℕ) {n : ℕ} {first : List ℕ} (whole : length T ≡ n) (firsts : Tabulated (firstOn T) n first) where
-  -- the half-edges that lead by the table are the first appearances
-  leads-isFirst : (h : ℕ) → h < n → leads first h ≡ isFirst T h
-  unfolding isFirst
-  leads-isFirst h l = rw (firsts .entry h l)
-
-  -- so as many of them stand before a half-edge
-  count-leads : (m : ℕ) → m ≤ n → count (leads first) m ≡ count (isFirst T) m
-  count-leads m l = count-cong (leads first) (isFirst T) m (λ h b. leads-isFirst h (omega arith))
-
-  -- the numbers are those of the edge vertices
-  pub numbered-edgeNo : {N E : ℕ} {numbers : List ℕ} → Numbered N n first E numbers → Tabulated (edgeNo N T) n numbers
-  unfolding edgeNo
-  numbered-edgeNo M = record {
-    entry = λ h l. M .number h l ∙ rw (firsts .entry h l, count-leads (firstOn T h) (omega (arith, firstOn-le T h)));
-  }
-
-  -- and as many half-edges lead as there are edges
-  pub numbered-edges : {N E : ℕ} {numbers : List ℕ} → Numbered N n first E numbers → E ≡ edges T
-  unfolding edges
-  numbered-edges M = M .total ∙ count-leads n (omega arith) ∙ ap (count (isFirst T)) (sym whole)
+pub edges-le : {M n E : ℕ} {ring numbers : List ℕ} (T : List ℕ) → length T ≡ n → RingBy n (firstOn T) ring
+    → Numbered M n ring E numbers → E ≤ n
+edges-le {M} T whole R D = omega (arith, D .total T whole R, splitting.edges-le M T)

@@ -1,38 +1,43 @@
--- The numbers of the edge vertices, by the table of first half-edges.
+-- The numbers of the edge vertices, by the rings of the edges.
 use Prim.Native.Nat.{ℕ, _+_, _≤_, _<_}
 use mathlib.Core.Path.{_≡_}
 use mathlib.Core.Logic.{_≢_}
-use mathlib.Core.Bool.{Bool}
 use mathlib.Core.List.{List}
-use lib.Dec.{eqb}
 use lib.ListN.{length, set}
 use Rattle.theory.specs.Mesh.{at}
-use Rattle.theory.specs.Counting.{count}
+use Rattle.theory.specs.Splitting.{firstOn, edges, edgeNo}
+use Rattle.lists.specs.Tables.{Tabulated}
+use Rattle.rings.specs.Ring.{RingBy}
 
--- Whether half-edge h is the first on its edge.
-abbrev pub leads : List ℕ → ℕ → Bool
-leads first h = eqb (at first h) h
-
--- What `number_edges` is lent: for n half-edges the first on the same edge, which is its own first, and room.
-pub record NumberLent (N n : ℕ) (first numbers : List ℕ) : Type 0 where
+-- What `number_edges` is lent: the rings of the edges of some list of n half-edges, and room.
+pub record NumberLent (N n : ℕ) (ring numbers : List ℕ) : Type 0 where
   pub small : N + n < 65536
-  pub firstRoom : n ≤ length first
+  pub ringRoom : n ≤ length ring
   pub numbersRoom : n ≤ length numbers
-  pub within : (h : ℕ) → h < n → at first h ≤ h
-  pub own : (h : ℕ) → h < n → at first (at first h) ≡ at first h
+  pub list : List ℕ
+  pub whole : length list ≡ n
+  pub ringed : RingBy n (firstOn list) ring
 
--- Each half-edge has N plus the number of leading half-edges before the first on its edge; E of them lead.
-pub record Numbered (N n : ℕ) (first : List ℕ) (E : ℕ) (numbers : List ℕ) : Type 0 where
-  pub number : (h : ℕ) → h < n → at numbers h ≡ N + count (leads first) (at first h)
-  pub total : E ≡ count (leads first) n
+-- Whatever list the rings are those of: each half-edge has the number of the vertex on its edge, from N up, and E is
+-- how many edges there are.
+pub record Numbered (N n : ℕ) (ring : List ℕ) (E : ℕ) (numbers : List ℕ) : Type 0 where
+  pub number : (T : List ℕ) → length T ≡ n → RingBy n (firstOn T) ring → Tabulated (edgeNo N T) n numbers
+  pub total : (T : List ℕ) → length T ≡ n → RingBy n (firstOn T) ring → E ≡ edges T
 
--- What `number` is lent: half-edge h has room, f is the first on its edge, and N + E can stand in an entry.
-pub record OneLent (h f N E : ℕ) (numbers : List ℕ) : Type 0 where
+-- What `number_all` is lent: the same, and no half-edge has a number yet, which N + n says.
+pub record UnnumberedLent (N n : ℕ) (ring numbers : List ℕ) : Type 0 where
+  pub lent : NumberLent N n ring numbers
+  pub none : (h : ℕ) → h < n → at numbers h ≡ N + n
+
+-- What `number` is lent: half-edge h and the next one have room, and N + E can stand in an entry.
+pub record OneLent (h v N E : ℕ) (numbers : List ℕ) : Type 0 where
   pub room : h < length numbers
-  pub within : f ≤ h
-  pub small : N + E < 65536
+  pub nextRoom : v < length numbers
+  pub small : N + E < 65535
 
--- Half-edge h gets the next number where it leads, with one edge more, and else the number of the first on its edge.
-pub data OneNumbered (h f N E : ℕ) (numbers : List ℕ) : ℕ → List ℕ → Type 0 where
-  next : f ≡ h → OneNumbered h f N E numbers (E + 1) (set numbers h (N + E))
-  same : f ≢ h → OneNumbered h f N E numbers E (set numbers h (at numbers f))
+-- Half-edge h gets the next number where it has none, with one edge more, and else keeps its own; the next on its ring,
+-- v, gets the same.
+pub data OneNumbered (h v none N E : ℕ) (numbers : List ℕ) : ℕ → List ℕ → Type 0 where
+  next : at numbers h ≡ none → OneNumbered h v none N E numbers (E + 1) (set (set numbers h (N + E)) v (N + E))
+  same : at numbers h ≢ none
+      → OneNumbered h v none N E numbers E (set (set numbers h (at numbers h)) v (at numbers h))

@@ -1,6 +1,8 @@
 // The splitting of a mesh: the numbers of the edge vertices in order of first appearance, and the four triangles that
 // each triangle becomes. Both go once over the half-edges. Assumes nothing.
 use lists::at;
+use lists::fill;
+use rings::ring::chosen;
 ghost use mathlib.Core.Path.{_≡_};
 ghost use Prim.Native.Nat.{ℕ, _+_, _*_, _≤_};
 ghost use mathlib.Core.List.{[], _∷_};
@@ -8,36 +10,51 @@ ghost use lib.Seq.{sets};
 ghost use Rattle.theory.specs.Splitting.{edgeNo, split};
 ghost use Rattle.theory.specs.Calls.{written};
 ghost use Rattle.lists.specs.Tables.{Tabulated};
-ghost use Rattle.split.specs.Numbers.{NumberLent, Numbered, OneLent, OneNumbered};
+ghost use Rattle.split.specs.Numbers.{NumberLent, Numbered, UnnumberedLent, OneLent, OneNumbered};
 ghost use Rattle.split.specs.Fours.{FoursLent, FourLent, fourOf};
 
 // Gives each half-edge the number of the vertex on its edge, from `vertices` up in order of first appearance, where
-// `first` has the first half-edge on the same edge. Answers how many edges there are.
-pub fn number_edges(vertices: usize, halves: usize, first: &[u16], numbers: &mut [u16]) -> usize
-    requires { ⌜ NumberLent vertices halves (now first) (now numbers) ⌝ }
-    ensures { λ r. ⌜ Numbered vertices halves (now (first .entry)) r (now (numbers .exit)) ⌝ }
+// `ring` has the rings of the edges. Answers how many edges there are.
+pub fn number_edges(vertices: usize, halves: usize, ring: &[u16], numbers: &mut [u16]) -> usize
+    requires { ⌜ NumberLent vertices halves (now ring) (now numbers) ⌝ }
+    ensures { λ r. ⌜ Numbered vertices halves (now (ring .entry)) r (now (numbers .exit)) ⌝ }
+{
+    fill(numbers, halves, (vertices + halves) as u16);
+    number_all(vertices, halves, ring, numbers)
+}
+
+// The same where no half-edge has a number yet, which a number above all that are given says.
+fn number_all(vertices: usize, halves: usize, ring: &[u16], numbers: &mut [u16]) -> usize
+    requires { ⌜ UnnumberedLent vertices halves (now ring) (now numbers) ⌝ }
+    ensures { λ r. ⌜ Numbered vertices halves (now (ring .entry)) r (now (numbers .exit)) ⌝ }
 {
     let mut edges = 0;
     let mut h = 0;
     while h < halves {
-        edges = number(h, at(first, h), vertices, edges, numbers);
+        edges = number(h, at(ring, h), vertices + halves, vertices, edges, numbers);
         h += 1;
     }
     edges
 }
 
-// The number of one half-edge, where those before it have theirs: the next number for the first on its edge, and that
-// one's number for any other. Answers how many edges have a number then.
-fn number(h: usize, first: usize, vertices: usize, edges: usize, numbers: &mut [u16]) -> usize
-    requires { ⌜ OneLent h first vertices edges (now numbers) ⌝ }
-    ensures { λ r. ⌜ OneNumbered h first vertices edges (now (numbers .entry)) r (now (numbers .exit)) ⌝ }
+// Half-edge h keeps the number that it was handed, or gets the next one where it has `none`, and hands it on to the
+// next on its ring. Answers how many edges have a number then.
+fn number(
+    h: usize,
+    next: usize,
+    none: usize,
+    vertices: usize,
+    edges: usize,
+    numbers: &mut [u16],
+) -> usize
+    requires { ⌜ OneLent h next vertices edges (now numbers) ⌝ }
+    ensures { λ r. ⌜ OneNumbered h next none vertices edges (now (numbers .entry)) r (now (numbers .exit)) ⌝ }
 {
-    if first == h {
-        numbers[h] = (vertices + edges) as u16;
-        return edges + 1;
-    }
-    numbers[h] = numbers[first];
-    edges
+    let held = at(numbers, h);
+    let number = chosen(held, none, vertices + edges, held);
+    numbers[h] = number as u16;
+    numbers[next] = number as u16;
+    chosen(held, none, edges + 1, edges)
 }
 
 // Writes the splitting: twelve entries for each triangle, where `numbers` has the number of the vertex on each

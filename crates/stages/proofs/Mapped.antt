@@ -88,8 +88,8 @@ module _ {F n : ℕ} {list marks kept coarse numbers map corners : List ℕ}
 
 -- ---- triangles
 
-module _ {F : ℕ} {mate owner marks map claimed claimed′ : List ℕ} (L : TrianglesLent F mate owner marks map claimed)
-    (C : Claimed F marks mate owner claimed′) where
+module _ {F : ℕ} {other marks map claimed claimed′ : List ℕ} (L : TrianglesLent F other marks map claimed)
+    (C : Claimed F marks other claimed′) where
   -- what is claimed is one of the triangles
   claimed-inside : (t : ℕ) → t < F → at claimed′ t < F
   claimed-inside t l = go (t % 4) refl (count-hit (marked marks) F (t / 4) (omega (arith, L .claims .quarter)))
@@ -103,7 +103,7 @@ module _ {F : ℕ} {mate owner marks map claimed claimed′ : List ℕ} (L : Tri
           let place : 4 * count (marked marks) k + suc i ≡ t = omega arith in
           subst (λ (u : ℕ). at claimed′ u < F) place
           (rw (C .corner k i b p (omega arith))
-          (L .owned (at mate (3 * k + (i + 2) % 3)) (L .claims .mated k ((i + 2) % 3) b p (omega arith))))
+          (omega (arith, L .mated k ((i + 2) % 3) b p (omega arith) .inside)))
 
   -- so it is lent as keys of the map
   pub claimed-lent : {map′ : List ℕ} → length claimed′ ≡ length claimed → length map′ ≡ length map

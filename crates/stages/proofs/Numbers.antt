@@ -12,10 +12,10 @@ use Rattle.lists.specs.Marks.{RanksOf}
 use Rattle.lists.specs.Tables.{Tabulated}
 use Rattle.lists.proofs.Lists.{at-take, at-filled, length-filled}
 use Rattle.lists.proofs.Marks.{total-le}
-use Rattle.mesh.specs.Faults.{MarksLent, UsedMark, used, unused, UsedMarks}
+use Rattle.faults.specs.Faults.{MarksLent, UsedMark, used, unused, UsedMarks}
 use Rattle.split.specs.Numbers.{NumberLent, Numbered}
 use Rattle.split.proofs.Numbering.{edges-le}
-use Rattle.tiles.specs.Selected.{FirstsLent, FirstsOf}
+use Rattle.tiles.specs.Selected.{RingLent, RingSelected}
 use Rattle.stages.specs.Role.{CoarseTables, NumberTilesLent}
 
 -- the marks of what stands among the first n entries are those of what stands in the list's front
@@ -26,8 +26,8 @@ used-take {N} {n} {keys} {marks} U = record { mark = λ v l. whole v (U .mark v 
     whole v (used c l e) = used c l (sym (at-take n keys c l) ∙ e)
     whole v (unused none) = unused (λ c l e. none c l (at-take n keys c l ∙ e))
 
-module _ {N F n : ℕ} {first owners marks kept coarse₀ numbers₀ rank₀ table₀ : List ℕ}
-    (L : NumberTilesLent N F n first owners marks kept coarse₀ numbers₀ rank₀ table₀) where
+module _ {N F n : ℕ} {ring marks kept coarse₀ numbers₀ rank₀ table₀ : List ℕ}
+    (L : NumberTilesLent N F n ring marks kept coarse₀ numbers₀ rank₀ table₀) where
   -- what `mark_used` requires, once the table is cleared
   pub markable : {table : List ℕ} → table ≡ replicate N 0 ++ drop N table₀ → MarksLent N n (take (3 * n) kept) table
   markable e = rw e (record {
@@ -52,27 +52,25 @@ module _ {N F n : ℕ} {first owners marks kept coarse₀ numbers₀ rank₀ tab
     valued = L .coarseRoom;
   }
 
-  -- what `selected_firsts` requires
-  pub firstable : {m : ℕ} {tile table : List ℕ} → length tile ≡ length rank₀ → length table ≡ length table₀
-      → RanksOf F marks m tile → FirstsLent F first owners marks tile table
-  firstable s t R = record {
+  -- what `selected_ring` requires
+  pub selectable : {m : ℕ} {tile table : List ℕ} → length tile ≡ length rank₀ → length table ≡ length table₀
+      → RanksOf F marks m tile → RingLent F ring marks tile table
+  selectable s t R = record {
     small = L .halves;
-    firstRoom = L .firstRoom;
-    ownerRoom = L .ownersRoom;
+    ringRoom = L .ringRoom;
     marksRoom = L .marksRoom;
     tileRoom = omega (arith, L .rankRoom);
     outRoom = omega (arith, L .tableRoom);
-    within = λ h l. omega (arith, L .firstWithin h l);
-    owned = L .owned;
+    within = L .within;
     ranked = R .entry;
   }
 
   -- the tables of the coarse mesh
-  pub tables : {M m : ℕ} {keptMarks rank coarse tile firstC : List ℕ}
+  pub tables : {M m : ℕ} {keptMarks rank coarse tile ringC : List ℕ}
       → UsedMarks N (take (3 * n) kept) (3 * n) keptMarks → RanksOf N keptMarks M rank
       → length coarse ≡ length coarse₀ → Tabulated (λ p. at rank (at kept p)) (3 * n) coarse
-      → RanksOf F marks m tile → FirstsOf F first owners marks tile firstC
-      → CoarseTables N F n first owners marks kept M coarse firstC
+      → RanksOf F marks m tile → RingSelected F ring marks tile ringC
+      → CoarseTables N F n ring marks kept M coarse ringC
   tables {keptMarks = keptMarks} {rank} {tile = tile} U R s C Q O = record {
     keptMarks = keptMarks;
     rank = rank;
@@ -82,20 +80,32 @@ module _ {N F n : ℕ} {first owners marks kept coarse₀ numbers₀ rank₀ tab
     room = omega (arith, L .coarseRoom);
     entries = C;
     tiles = record { entry = Q .entry; all = L .total };
-    firsts = O;
+    links = O;
   }
 
-  module _ {M : ℕ} {coarse firstC : List ℕ} (B : CoarseTables N F n first owners marks kept M coarse firstC) where
+  module _ {M : ℕ} {coarse ringC : List ℕ} (B : CoarseTables N F n ring marks kept M coarse ringC) where
+    -- the coarse mesh has n triangles
+    coarse-whole : length (take (3 * n) coarse) ≡ 3 * n
+    coarse-whole = length-take-le (3 * n) coarse (B .room)
+
     -- what `number_edges` requires
-    pub numberable : length firstC ≡ length table₀ → NumberLent M (3 * n) firstC numbers₀
+    pub numberable : length ringC ≡ length table₀ → NumberLent M (3 * n) ringC numbers₀
     numberable s = record {
       small = omega (arith, total-le (B .ranks), L .small, L .quarter);
-      firstRoom = omega (arith, L .tableRoom, L .quarter);
+      ringRoom = omega (arith, L .tableRoom, L .quarter);
       numbersRoom = L .numbersRoom;
-      within = L .ordered M coarse firstC B .within;
-      own = L .ordered M coarse firstC B .own;
+      list = take (3 * n) coarse;
+      whole = coarse-whole;
+      ringed = L .ringed M coarse ringC B;
     }
 
     -- vertices and edges together fit
-    pub sum-fits : {E : ℕ} {numbers : List ℕ} → Numbered M (3 * n) firstC E numbers → M + E < 65536
-    sum-fits D = omega (arith, edges-le D, total-le (B .ranks), L .small, L .quarter)
+    pub sum-fits : {E : ℕ} {numbers : List ℕ} → Numbered M (3 * n) ringC E numbers → M + E < 65536
+    sum-fits D =
+        omega (
+          arith,
+          edges-le (take (3 * n) coarse) coarse-whole (L .ringed M coarse ringC B) D,
+          total-le (B .ranks),
+          L .small,
+          L .quarter,
+        )

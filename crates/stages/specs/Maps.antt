@@ -1,8 +1,9 @@
 -- The maps of a role, as tables: what the calls that make them and compare by them are lent and do.
-use Prim.Native.Nat.{ℕ, _*_, _/_, _≤_, _<_}
+use Prim.Native.Nat.{ℕ, _+_, _*_, _/_, _≤_, _<_}
 use mathlib.Core.Path.{_≡_}
 use mathlib.Core.Bool.{Bool, true}
 use mathlib.Core.List.{List}
+use lib.Dec.{T}
 use lib.ListN.{length, take}
 use Rattle.theory.specs.Mesh.{at}
 use Rattle.theory.specs.Counting.{count}
@@ -10,6 +11,7 @@ use Rattle.theory.specs.Splitting.{edgeNo, split}
 use Rattle.lists.specs.Keys.{KeysLent, Scattered, Holds}
 use Rattle.lists.specs.Marks.{marked}
 use Rattle.lists.specs.Tables.{Tabulated}
+use Rattle.rings.specs.Others.{HasMate}
 use Rattle.tiles.specs.Selected.{SelectLent, Selected}
 use Rattle.tiles.specs.Claims.{ClaimsLent, Claimed}
 use Rattle.tiles.specs.Compared.{Compared}
@@ -40,16 +42,17 @@ pub record VerticesMapped (F n : ℕ) (list marks kept coarse numbers map map′
 
 -- ---- triangles
 
--- What `map_triangles` is lent: what `claims` is, half-edges of F triangles, and a map that has these.
-pub record TrianglesLent (F : ℕ) (mate owner marks map claimed : List ℕ) : Type 0 where
-  pub claims : ClaimsLent F marks mate owner claimed
-  pub owned : (h : ℕ) → h < 3 * F → at owner h < F
+-- What `map_triangles` is lent: what `claims` is, marked triangles whose edges all have mates, and a map
+-- that has the F triangles.
+pub record TrianglesLent (F : ℕ) (other marks map claimed : List ℕ) : Type 0 where
+  pub claims : ClaimsLent F marks other claimed
+  pub mated : (k i : ℕ) → k < F → T (marked marks k) → i < 3 → HasMate (3 * F) other (3 * k + i)
   pub mapRoom : F ≤ length map
 
 -- Triangles are claimed; each of the splitting is put into the map at the one that is claimed for it. The answer is
 -- true exactly if the map holds them all.
-pub record TrianglesMapped (F : ℕ) (mate owner marks map map′ claimed′ : List ℕ) (answer : Bool) : Type 0 where
-  pub claims : Claimed F marks mate owner claimed′
+pub record TrianglesMapped (F : ℕ) (other marks map map′ claimed′ : List ℕ) (answer : Bool) : Type 0 where
+  pub claims : Claimed F marks other claimed′
   pub scattered : Scattered (λ t. t) F claimed′ map map′
   pub holds : Holds (λ t. t) F claimed′ map′ answer
 

@@ -1,7 +1,8 @@
 // The stages of one role, without a loop of their own: the tiles that are reached from the role's start, the coarse
-// mesh that they make, the maps, and the comparison. Each calls `lists`, `mesh`, `split` and `tiles` on the tables
+// mesh that they make, the maps, and the comparison. Each calls `lists`, `reach`, `split` and `tiles` on the tables
 // that the stages before it made; `undo` calls the stages. Every table lives in a slice that the caller lends. It
 // takes time linear in vertices and triangles, and assumes nothing.
+use faults::mark_used;
 use lists::fill;
 use lists::gather;
 use lists::holds;
@@ -9,14 +10,13 @@ use lists::invert;
 use lists::inverts;
 use lists::ranks;
 use lists::scatter;
-use mesh::faults::mark_used;
-use mesh::reach::reach;
+use reach::reach;
 use split::number_edges;
 use split::write_fours;
 use tiles::claims::claims;
 use tiles::compare::compare;
 use tiles::select::select;
-use tiles::select::selected_firsts;
+use tiles::select::selected_ring;
 use tiles::start::start;
 ghost use Rattle.tiles.specs.Starts.{startOf};
 ghost use Rattle.stages.specs.Role.{FindLent, TilesFound, NumberTilesLent, CoarseNumbered};
@@ -28,26 +28,24 @@ ghost use Rattle.stages.specs.Maps.{AllLent, AllCompared};
 pub fn find_tiles(
     role: usize,
     triangles: usize,
-    mate: &[u16],
+    other: &[u16],
     rows: &[u16],
-    first: &[u16],
-    link: &[u16],
-    owner: &[u16],
+    ring: &[u16],
     marks: &mut [u16],
     kept: &mut [u16],
     queue: &mut [u16],
     opened: &mut [u16],
 ) -> usize
-    requires { ⌜ FindLent triangles (now mate) (now rows) (now first) (now link) (now owner)
-        (now marks) (now kept) (now queue) (now opened) ⌝ }
-    ensures { λ r. ⌜ TilesFound (startOf role triangles (now (mate .entry)) (now (owner .entry)) (now (rows .entry)))
-        triangles (now (rows .entry)) (now (first .entry)) (now (marks .exit)) (now (kept .exit)) r ⌝ }
+    requires { ⌜ FindLent triangles (now other) (now rows) (now ring) (now marks) (now kept) (now queue)
+        (now opened) ⌝ }
+    ensures { λ r. ⌜ TilesFound (startOf role triangles (now (other .entry)) (now (rows .entry)))
+        triangles (now (rows .entry)) (now (ring .entry)) (now (marks .exit)) (now (kept .exit)) r ⌝ }
 {
-    let tile = start(role, triangles, mate, owner, rows);
+    let tile = start(role, triangles, other, rows);
     if tile == triangles {
         return 0;
     }
-    reach(tile, triangles, first, link, owner, marks, queue, opened);
+    reach(tile, triangles, ring, marks, queue, opened);
     let count = select(triangles, rows, marks, kept);
     if 4 * count != triangles {
         return 0;
@@ -62,8 +60,7 @@ pub fn number_tiles(
     vertices: usize,
     triangles: usize,
     count: usize,
-    first: &[u16],
-    owner: &[u16],
+    ring: &[u16],
     marks: &[u16],
     kept: &[u16],
     coarse: &mut [u16],
@@ -71,10 +68,10 @@ pub fn number_tiles(
     rank: &mut [u16],
     table: &mut [u16],
 ) -> usize
-    requires { ⌜ NumberTilesLent vertices triangles count (now first) (now owner) (now marks) (now kept)
-        (now coarse) (now numbers) (now rank) (now table) ⌝ }
-    ensures { λ r. ⌜ CoarseNumbered vertices triangles count (now (first .entry)) (now (owner .entry))
-        (now (marks .entry)) (now (kept .entry)) (now (coarse .exit)) (now (numbers .exit)) r ⌝ }
+    requires { ⌜ NumberTilesLent vertices triangles count (now ring) (now marks) (now kept) (now coarse)
+        (now numbers) (now rank) (now table) ⌝ }
+    ensures { λ r. ⌜ CoarseNumbered vertices triangles count (now (ring .entry)) (now (marks .entry))
+        (now (kept .entry)) (now (coarse .exit)) (now (numbers .exit)) r ⌝ }
 {
     let halves = 3 * count;
     fill(table, vertices, 0);
@@ -82,7 +79,7 @@ pub fn number_tiles(
     let kept_count = ranks(table, vertices, rank);
     gather(rank, kept, halves, coarse);
     ranks(marks, triangles, rank);
-    selected_firsts(triangles, first, owner, marks, rank, table);
+    selected_ring(triangles, ring, marks, rank, table);
     let edges = number_edges(kept_count, halves, table, numbers);
     if kept_count + edges != vertices {
         return vertices + 1;
@@ -121,17 +118,16 @@ pub fn map_vertices(
 // Gives each triangle its number in the splitting. Answers whether each got one.
 pub fn map_triangles(
     triangles: usize,
-    mate: &[u16],
-    owner: &[u16],
+    other: &[u16],
     marks: &[u16],
     map: &mut [u16],
     claimed: &mut [u16],
 ) -> bool
-    requires { ⌜ TrianglesLent triangles (now mate) (now owner) (now marks) (now map) (now claimed) ⌝ }
-    ensures { λ r. ⌜ TrianglesMapped triangles (now (mate .entry)) (now (owner .entry)) (now (marks .entry))
-        (now (map .entry)) (now (map .exit)) (now (claimed .exit)) r ⌝ }
+    requires { ⌜ TrianglesLent triangles (now other) (now marks) (now map) (now claimed) ⌝ }
+    ensures { λ r. ⌜ TrianglesMapped triangles (now (other .entry)) (now (marks .entry)) (now (map .entry))
+        (now (map .exit)) (now (claimed .exit)) r ⌝ }
 {
-    claims(triangles, marks, mate, owner, claimed);
+    claims(triangles, marks, other, claimed);
     invert(claimed, triangles, map);
     inverts(claimed, triangles, map)
 }

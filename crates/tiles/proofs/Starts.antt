@@ -1,12 +1,13 @@
 -- Laws of specs/Starts.antt: what the start tile is, case by case.
-use Prim.Native.Nat.{ℕ, zero, suc, _+_, _*_, _%_, _≤_, _<_}
+use Prim.Native.Nat.{ℕ, zero, suc, _+_, _*_, _/_, _%_, _≤_}
 use native.Mathlib.Omega.{arith}
 use mathlib.Core.Path.{_≡_, refl}
 use mathlib.Core.Logic.{_≢_}
 use mathlib.Core.List.{List}
 use borrow.Author.Tests.{eq-eqb, ne-eqb, le-leb, lt-leb}
 use Rattle.theory.specs.Mesh.{at}
-use Rattle.lists.proofs.Lists.{by-eq}
+use Rattle.lists.proofs.Lists.{by-eq, by-lt}
+use Rattle.rings.specs.Others.{HasMate}
 use Rattle.tiles.specs.Starts.{tileOf, startOf}
 
 -- ---- a tile by its row
@@ -31,21 +32,31 @@ module _ (F : ℕ) (rows : List ℕ) (k : ℕ) where
 
 -- ---- the start
 
-module _ (F : ℕ) (mate owner rows : List ℕ) where
+module _ (F : ℕ) (other rows : List ℕ) where
   -- in role 0 it is triangle 0, if that is a tile
-  pub startOf-own : (ρ : ℕ) → ρ ≡ 0 → startOf ρ F mate owner rows ≡ tileOf F rows 0
+  pub startOf-own : (ρ : ℕ) → ρ ≡ 0 → startOf ρ F other rows ≡ tileOf F rows 0
   unfolding startOf
   startOf-own ρ e = rw e
 
-  -- in any other role the triangle h across the side, if that is a tile
-  pub startOf-beside : (ρ : ℕ) {g h : ℕ} → ρ ≢ 0 → g ≡ at mate (ρ % 3) → g < 3 * F → h ≡ at owner g
-      → startOf ρ F mate owner rows ≡ tileOf F rows h
+  -- in any other role the triangle across the side, if that is a tile
+  pub startOf-beside : (ρ : ℕ) → ρ ≢ 0 → HasMate (3 * F) other (ρ % 3)
+      → startOf ρ F other rows ≡ tileOf F rows (at other (ρ % 3) / 3)
   unfolding startOf
-  startOf-beside zero n e l o = absurd (n refl)
-  startOf-beside (suc i) n e l o = rw (lt-leb (3 * F) (at mate (suc i % 3)) (omega arith), startOf, ← e, ← o)
+  startOf-beside zero n H = absurd (n refl)
+  startOf-beside (suc i) n H =
+      rw (
+        lt-leb (3 * F) (at other (suc i % 3)) (H .inside),
+        ne-eqb (at other (suc i % 3)) (suc i % 3) (H .another),
+        startOf,
+      )
 
   -- where the side has no mate, there is none
-  pub startOf-none : (ρ : ℕ) {g : ℕ} → ρ ≢ 0 → g ≡ at mate (ρ % 3) → 3 * F ≤ g → startOf ρ F mate owner rows ≡ F
+  pub startOf-none : (ρ : ℕ) → ρ ≢ 0 → (HasMate (3 * F) other (ρ % 3) → ⊥) → startOf ρ F other rows ≡ F
   unfolding startOf
-  startOf-none zero n e l = absurd (n refl)
-  startOf-none (suc i) n e l = rw (le-leb (3 * F) (at mate (suc i % 3)) (omega arith), startOf)
+  startOf-none zero n none = absurd (n refl)
+  startOf-none (suc i) n none =
+      by-lt (at other (suc i % 3)) (3 * F)
+      (λ l. by-eq (at other (suc i % 3)) (suc i % 3)
+      (λ e. rw (lt-leb (3 * F) (at other (suc i % 3)) l, eq-eqb (at other (suc i % 3)) (suc i % 3) e, startOf))
+      (λ m. absurd (none (record { inside = l; another = m }))))
+      (λ l. rw (le-leb (3 * F) (at other (suc i % 3)) l, startOf))

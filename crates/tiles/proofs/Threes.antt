@@ -2,7 +2,7 @@
 -- order. A triangle's vertices are the three at its corners. Answers that decide stand in front.
 use Prim.Native.Nat.{ℕ, _+_, _*_, _≤_}
 use native.Mathlib.Omega.{arith}
-use mathlib.Core.Path.{_≡_, refl, sym, subst}
+use mathlib.Core.Path.{_≡_, _∙_, refl, sym, subst}
 use mathlib.Core.Bool.{Bool, true, false}
 use mathlib.Core.List.{List}
 use lib.ListN.{length}
@@ -24,6 +24,10 @@ decides-moved there here D = record { sound = λ e. there (D .sound e); complete
 -- false decides what does not hold
 pub decides-not : {A : Type 0} → (A → ⊥) → Decides A false
 decides-not n = record { sound = λ e. absurd (false-true e); complete = λ a. absurd (n a) }
+
+-- where the answer is false, A does not hold
+pub decided-not : {A : Type 0} {answer : Bool} → Decides A answer → answer ≡ false → A → ⊥
+decided-not D e a = false-true (sym e ∙ D .complete a)
 
 -- ---- arranged vertices are the same
 

@@ -1,12 +1,11 @@
 -- The marked triangles of a list, selected.
-use Prim.Native.Nat.{ℕ, _+_, _-_, _*_, _/_, _≤_, _<_}
+use Prim.Native.Nat.{ℕ, _+_, _*_, _/_, _%_, _≤_, _<_}
 use mathlib.Core.Path.{_≡_}
 use mathlib.Core.List.{List}
 use lib.Dec.{T}
 use lib.ListN.{length}
 use Rattle.theory.specs.Mesh.{at}
 use Rattle.theory.specs.Counting.{count}
-use Rattle.lists.specs.Tables.{Tabulated}
 use Rattle.lists.specs.Marks.{marked}
 
 -- What `select` is lent: F triangles, their marks, and room.
@@ -28,38 +27,33 @@ pub record OneLent (k total : ℕ) (list marks out : List ℕ) : Type 0 where
   pub outRoom : 3 * total + 3 ≤ length out
 
 -- The half-edge of the selected list that half-edge h becomes.
-abbrev pub selectedHalf : List ℕ → List ℕ → ℕ → ℕ
-selectedHalf owner tile h = 3 * at tile (at owner h) + (h - 3 * at owner h)
+abbrev pub selectedHalf : List ℕ → ℕ → ℕ
+selectedHalf tile h = 3 * at tile (h / 3) + h % 3
 
--- What `selected_half` is lent: half-edge h, its triangle, and a result within 16 bits.
-pub record HalfLent (h : ℕ) (owner tile : List ℕ) : Type 0 where
-  pub ownerRoom : h < length owner
-  pub tileRoom : at owner h < length tile
-  pub owned : 3 * at owner h ≤ h
-  pub small : selectedHalf owner tile h < 65536
+-- What `selected_half` is lent: half-edge h, the rank of its triangle, and a result within 16 bits.
+pub record HalfLent (h : ℕ) (tile : List ℕ) : Type 0 where
+  pub tileRoom : h / 3 < length tile
+  pub small : selectedHalf tile h < 65536
 
--- What `selected_firsts` is lent: first half-edges, the triangle of each half-edge, the ranks of the marked triangles,
--- and room.
-pub record FirstsLent (F : ℕ) (first owner marks tile out : List ℕ) : Type 0 where
+-- What `selected_ring` is lent: rings, whose links are below 3F, the ranks of the marked triangles, and room.
+pub record RingLent (F : ℕ) (ring marks tile out : List ℕ) : Type 0 where
   pub small : 3 * F < 65536
-  pub firstRoom : 3 * F ≤ length first
-  pub ownerRoom : 3 * F ≤ length owner
+  pub ringRoom : 3 * F ≤ length ring
   pub marksRoom : F ≤ length marks
   pub tileRoom : F ≤ length tile
   pub outRoom : 3 * F ≤ length out
-  pub within : (h : ℕ) → h < 3 * F → at first h < 3 * F
-  pub owned : Tabulated (λ h. h / 3) (3 * F) owner
+  pub within : (h : ℕ) → h < 3 * F → at ring h < 3 * F
   pub ranked : (k : ℕ) → k < F → at tile k ≡ count (marked marks) k
 
--- The first half-edge of each half-edge of a marked triangle, both as half-edges of the selected list.
-pub record FirstsOf (F : ℕ) (first owner marks tile out : List ℕ) : Type 0 where
+-- The link of each half-edge of a marked triangle, both as half-edges of the selected list.
+pub record RingSelected (F : ℕ) (ring marks tile out : List ℕ) : Type 0 where
   pub entry : (k i : ℕ) → k < F → T (marked marks k) → i < 3
-      → at out (3 * at tile k + i) ≡ selectedHalf owner tile (at first (3 * k + i))
+      → at out (3 * at tile k + i) ≡ selectedHalf tile (at ring (3 * k + i))
 
--- What `selected_first` is lent: triangle k, and room at its rank.
-pub record FirstLent (k : ℕ) (first owner marks tile out : List ℕ) : Type 0 where
-  pub firstRoom : 3 * k + 3 ≤ length first
+-- What `selected_links` is lent: triangle k, and room at its rank.
+pub record LinksLent (k : ℕ) (ring marks tile out : List ℕ) : Type 0 where
+  pub ringRoom : 3 * k + 3 ≤ length ring
   pub marksRoom : k < length marks
   pub tileRoom : k < length tile
   pub outRoom : 3 * at tile k + 3 ≤ length out
-  pub halves : (h : ℕ) → 3 * k ≤ h → h < 3 * k + 3 → HalfLent (at first h) owner tile
+  pub halves : (h : ℕ) → 3 * k ≤ h → h < 3 * k + 3 → HalfLent (at ring h) tile

@@ -1,6 +1,6 @@
 -- The start tile of a role, by the tables.
-use Prim.Native.Nat.{ℕ, zero, suc, _+_, _*_, _%_, _≤_, _<_}
-use mathlib.Core.Bool.{true, false}
+use Prim.Native.Nat.{ℕ, zero, suc, _+_, _*_, _/_, _%_, _≤_, _<_}
+use mathlib.Core.Bool.{true, false, _||_}
 use mathlib.Core.List.{List}
 use lib.Dec.{eqb, leb}
 use lib.ListN.{length}
@@ -11,19 +11,18 @@ unfoldable pub tileOf : ℕ → List ℕ → ℕ → ℕ
 tileOf F rows k = elim (eqb (at rows (3 * k)) (at rows (3 * k + 1))) [ true ↦ F | false ↦ k ]
 
 -- The start tile: triangle 0, or the triangle across the side opposite a corner of it; F where there is none.
-unfoldable pub startOf : ℕ → ℕ → List ℕ → List ℕ → List ℕ → ℕ
-startOf zero F mate owner rows = tileOf F rows 0
-startOf (suc i) F mate owner rows =
-    elim (leb (3 * F) (at mate (suc i % 3))) [ true ↦ F | false ↦ tileOf F rows (at owner (at mate (suc i % 3))) ]
+unfoldable pub startOf : ℕ → ℕ → List ℕ → List ℕ → ℕ
+startOf zero F other rows = tileOf F rows 0
+startOf (suc i) F other rows =
+    elim (leb (3 * F) (at other (suc i % 3)) || eqb (at other (suc i % 3)) (suc i % 3))
+    [ true ↦ F | false ↦ tileOf F rows (at other (suc i % 3) / 3) ]
 
 -- What `start` is lent.
-pub record StartLent (role F : ℕ) (mate owner rows : List ℕ) : Type 0 where
+pub record StartLent (role F : ℕ) (other rows : List ℕ) : Type 0 where
   pub some : 0 < F
   pub small : 3 * F < 65536
-  pub mateRoom : 3 * F ≤ length mate
-  pub ownerRoom : 3 * F ≤ length owner
+  pub otherRoom : 3 * F ≤ length other
   pub rowsRoom : 3 * F ≤ length rows
-  pub owned : (h : ℕ) → h < 3 * F → at owner h < F
 
 -- What `tile` is lent: one of F triangles, with its row.
 pub record TileLent (k F : ℕ) (rows : List ℕ) : Type 0 where

@@ -9,47 +9,40 @@ ghost use Rattle.tiles.specs.Runs.{Counted};
 ghost use Rattle.tiles.specs.Claims.{ClaimsLent, Claimed, ClaimLent, FourLent, claimsOf};
 
 // For each triangle of the splitting of the marked tiles the input triangle that is claimed for it.
-pub fn claims(triangles: usize, marks: &[u16], mate: &[u16], owner: &[u16], out: &mut [u16])
-    requires { ⌜ ClaimsLent triangles (now marks) (now mate) (now owner) (now out) ⌝ }
-    ensures { λ _. ⌜ Claimed triangles (now (marks .entry)) (now (mate .entry)) (now (owner .entry))
+pub fn claims(triangles: usize, marks: &[u16], other: &[u16], out: &mut [u16])
+    requires { ⌜ ClaimsLent triangles (now marks) (now other) (now out) ⌝ }
+    ensures { λ _. ⌜ Claimed triangles (now (marks .entry)) (now (other .entry))
         (now (out .exit)) ⌝ }
 {
     let mut count = 0;
     let mut k = 0;
     while k < triangles {
-        count = claim(k, count, marks, mate, owner, out);
+        count = claim(k, count, marks, other, out);
         k += 1;
     }
 }
 
 // The four of triangle k behind those of `count` others, if it is marked. Answers how many have theirs then.
-fn claim(
-    k: usize,
-    count: usize,
-    marks: &[u16],
-    mate: &[u16],
-    owner: &[u16],
-    out: &mut [u16],
-) -> usize
-    requires { ⌜ ClaimLent k count (now marks) (now mate) (now owner) (now out) ⌝ }
+fn claim(k: usize, count: usize, marks: &[u16], other: &[u16], out: &mut [u16]) -> usize
+    requires { ⌜ ClaimLent k count (now marks) (now other) (now out) ⌝ }
     ensures { λ r. ⌜ Counted (at (now (marks .entry)) k) 4 count
-        (claimsOf (now (mate .entry)) (now (owner .entry)) k) (now (out .entry)) r (now (out .exit)) ⌝ }
+        (claimsOf (now (other .entry)) k) (now (out .entry)) r (now (out .exit)) ⌝ }
 {
     if marks[k] == 0 {
         return count;
     }
-    claim_four(k, count, mate, owner, out);
+    claim_four(k, count, other, out);
     count + 1
 }
 
-// The four of triangle k, whose edges all have mates, behind those of `count` others.
-fn claim_four(k: usize, count: usize, mate: &[u16], owner: &[u16], out: &mut [u16])
-    requires { ⌜ FourLent k count (now mate) (now owner) (now out) ⌝ }
+// The four of triangle k, behind those of `count` others.
+fn claim_four(k: usize, count: usize, other: &[u16], out: &mut [u16])
+    requires { ⌜ FourLent k count (now other) (now out) ⌝ }
     ensures { λ _. ⌜ now (out .exit) ≡ sets (now (out .entry)) (4 * count)
-        (claimsOf (now (mate .entry)) (now (owner .entry)) k) ⌝ }
+        (claimsOf (now (other .entry)) k) ⌝ }
 {
     out[4 * count] = k as u16;
-    out[4 * count + 1] = owner[at(mate, 3 * k + 2)];
-    out[4 * count + 2] = owner[at(mate, 3 * k)];
-    out[4 * count + 3] = owner[at(mate, 3 * k + 1)];
+    out[4 * count + 1] = (at(other, 3 * k + 2) / 3) as u16;
+    out[4 * count + 2] = (at(other, 3 * k) / 3) as u16;
+    out[4 * count + 3] = (at(other, 3 * k + 1) / 3) as u16;
 }

@@ -5,7 +5,7 @@ ghost use Prim.Native.Nat.{_*_};
 ghost use Rattle.theory.specs.Mesh.{at};
 ghost use Rattle.tiles.specs.Runs.{threeOf, Stored, Counted};
 ghost use Rattle.tiles.specs.Selected.{SelectLent, Selected, OneLent};
-ghost use Rattle.tiles.specs.Selected.{FirstsLent, FirstsOf, FirstLent, HalfLent, selectedHalf};
+ghost use Rattle.tiles.specs.Selected.{RingLent, RingSelected, LinksLent, HalfLent, selectedHalf};
 
 // Copies the corners of the marked triangles to the front of `out`, in order. Answers how many are marked.
 pub fn select(triangles: usize, list: &[u16], marks: &[u16], out: &mut [u16]) -> usize
@@ -36,55 +36,41 @@ fn select_one(k: usize, count: usize, list: &[u16], marks: &[u16], out: &mut [u1
     count + 1
 }
 
-// The first half-edges of the marked triangles' edges, as half-edges of the selected list: `tile` has the rank of each
-// marked triangle among the marked ones.
-pub fn selected_firsts(
-    triangles: usize,
-    first: &[u16],
-    owner: &[u16],
-    marks: &[u16],
-    tile: &[u16],
-    out: &mut [u16],
-)
-    requires { ⌜ FirstsLent triangles (now first) (now owner) (now marks) (now tile) (now out) ⌝ }
-    ensures { λ _. ⌜ FirstsOf triangles (now (first .entry)) (now (owner .entry)) (now (marks .entry))
-        (now (tile .entry)) (now (out .exit)) ⌝ }
+// The rings of the marked triangles' edges, as half-edges of the selected list: `tile` has the rank of each marked
+// triangle among the marked ones.
+pub fn selected_ring(triangles: usize, ring: &[u16], marks: &[u16], tile: &[u16], out: &mut [u16])
+    requires { ⌜ RingLent triangles (now ring) (now marks) (now tile) (now out) ⌝ }
+    ensures { λ _. ⌜ RingSelected triangles (now (ring .entry)) (now (marks .entry)) (now (tile .entry))
+        (now (out .exit)) ⌝ }
 {
     let mut k = 0;
     while k < triangles {
-        selected_first(k, first, owner, marks, tile, out);
+        selected_links(k, ring, marks, tile, out);
         k += 1;
     }
 }
 
 // Those of triangle k, if it is marked.
-fn selected_first(
-    k: usize,
-    first: &[u16],
-    owner: &[u16],
-    marks: &[u16],
-    tile: &[u16],
-    out: &mut [u16],
-)
-    requires { ⌜ FirstLent k (now first) (now owner) (now marks) (now tile) (now out) ⌝ }
+fn selected_links(k: usize, ring: &[u16], marks: &[u16], tile: &[u16], out: &mut [u16])
+    requires { ⌜ LinksLent k (now ring) (now marks) (now tile) (now out) ⌝ }
     ensures { λ _. ⌜ Stored (at (now (marks .entry)) k) (3 * at (now (tile .entry)) k)
-        (threeOf (λ h. selectedHalf (now (owner .entry)) (now (tile .entry)) (at (now (first .entry)) h)) k)
+        (threeOf (λ h. selectedHalf (now (tile .entry)) (at (now (ring .entry)) h)) k)
         (now (out .entry)) (now (out .exit)) ⌝ }
 {
     if marks[k] == 0 {
         return;
     }
     let place = 3 * at(tile, k);
-    out[place] = selected_half(at(first, 3 * k), owner, tile);
-    out[place + 1] = selected_half(at(first, 3 * k + 1), owner, tile);
-    out[place + 2] = selected_half(at(first, 3 * k + 2), owner, tile);
+    out[place] = selected_half(at(ring, 3 * k), tile);
+    out[place + 1] = selected_half(at(ring, 3 * k + 1), tile);
+    out[place + 2] = selected_half(at(ring, 3 * k + 2), tile);
 }
 
 // The half-edge of the selected list that half-edge h becomes.
-fn selected_half(h: usize, owner: &[u16], tile: &[u16]) -> u16
-    requires { ⌜ HalfLent h (now owner) (now tile) ⌝ }
-    ensures { λ r. ⌜ r ≡ selectedHalf (now (owner .entry)) (now (tile .entry)) h ⌝ }
+fn selected_half(h: usize, tile: &[u16]) -> u16
+    requires { ⌜ HalfLent h (now tile) ⌝ }
+    ensures { λ r. ⌜ r ≡ selectedHalf (now (tile .entry)) h ⌝ }
 {
-    let k = at(owner, h);
+    let k = h / 3;
     (3 * at(tile, k) + (h - 3 * k)) as u16
 }

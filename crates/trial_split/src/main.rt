@@ -44,7 +44,7 @@ fn main() {
 // one entry less in each in turn.
 fn try_rooms() {
     let mut short = 0;
-    while short < 9 {
+    while short < 7 {
         try_lent(3, &[0, 1, 2], 12, 6, short);
         short += 1;
     }
@@ -67,8 +67,6 @@ fn try_lent(vertices: u64, list: &[u16], corners: usize, work: usize, short: usi
     let mut work3: [u16; 32] = [9; 32];
     let mut work4: [u16; 32] = [9; 32];
     let mut work5: [u16; 32] = [9; 32];
-    let mut work6: [u16; 32] = [9; 32];
-    let mut work7: [u16; 32] = [9; 32];
     split_and_print(
         vertices,
         list,
@@ -78,8 +76,6 @@ fn try_lent(vertices: u64, list: &[u16], corners: usize, work: usize, short: usi
         &mut work3[..room(work, 4, short)],
         &mut work4[..room(work, 5, short)],
         &mut work5[..room(work, 6, short)],
-        &mut work6[..room(work, 7, short)],
-        &mut work7[..room(work, 8, short)],
     );
 }
 
@@ -93,21 +89,8 @@ fn split_and_print(
     work3: &mut [u16],
     work4: &mut [u16],
     work5: &mut [u16],
-    work6: &mut [u16],
-    work7: &mut [u16],
 ) {
-    let answer = flatcarol_split(
-        vertices,
-        list,
-        out,
-        work1,
-        work2,
-        work3,
-        work4,
-        work5,
-        work6,
-        work7,
-    );
+    let answer = flatcarol_split(vertices, list, out, work1, work2, work3, work4, work5);
     print_line(
         &[
             answer.refusal,
@@ -118,17 +101,15 @@ fn split_and_print(
     );
     let end = end_of(out, answer.triangles);
     print_rows(out, end, 3);
-    let sum = sum_of(work1, work2, work3, work4, work5, work6, work7);
+    let sum = sum_of(work1, work2, work3, work4, work5);
     print_line(&[entry(out, end), sum]);
 }
 
-// The sum of all entries of the seven lists.
-fn sum_of(a: &[u16], b: &[u16], c: &[u16], d: &[u16], e: &[u16], f: &[u16], g: &[u16]) -> u64 {
+// The sum of all entries of the five lists.
+fn sum_of(a: &[u16], b: &[u16], c: &[u16], d: &[u16], e: &[u16]) -> u64 {
     let mut sum = add_all(a, 0);
     sum = add_all(b, sum);
     sum = add_all(c, sum);
     sum = add_all(d, sum);
-    sum = add_all(e, sum);
-    sum = add_all(f, sum);
-    add_all(g, sum)
+    add_all(e, sum)
 }

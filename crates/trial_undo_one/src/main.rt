@@ -169,7 +169,7 @@ fn try_rooms() {
         b"just enough room, and 5: each buffer in turn one entry too short\n",
     );
     let mut short = 0;
-    while short < 15 {
+    while short < 13 {
         try_lent(6, &SPLIT_TRIANGLE, LEAST, 3, 6, 4, 18, short);
         short += 1;
     }
@@ -233,8 +233,6 @@ fn try_lent(
     let mut work7: [u16; 256] = [WORK; 256];
     let mut work8: [u16; 256] = [WORK; 256];
     let mut work9: [u16; 256] = [WORK; 256];
-    let mut work10: [u16; 256] = [WORK; 256];
-    let mut work11: [u16; 256] = [WORK; 256];
     undo_and_print(
         vertices,
         list,
@@ -251,8 +249,6 @@ fn try_lent(
         &mut work7[..room(work, 10, short)],
         &mut work8[..room(work, 11, short)],
         &mut work9[..room(work, 12, short)],
-        &mut work10[..room(work, 13, short)],
-        &mut work11[..room(work, 14, short)],
     );
 }
 
@@ -273,8 +269,6 @@ fn undo_and_print(
     work7: &mut [u16],
     work8: &mut [u16],
     work9: &mut [u16],
-    work10: &mut [u16],
-    work11: &mut [u16],
 ) {
     let answer = flatcarol_undo_one(
         vertices,
@@ -292,8 +286,6 @@ fn undo_and_print(
         work7,
         work8,
         work9,
-        work10,
-        work11,
     );
     print_line(
         &[
@@ -314,8 +306,6 @@ fn undo_and_print(
         work7,
         work8,
         work9,
-        work10,
-        work11,
     );
     print_all(
         answer.refusal,
@@ -381,7 +371,7 @@ fn print_outputs(
     );
 }
 
-// The sum of all entries of the eleven lists.
+// The sum of all entries of the nine lists.
 fn sum_of(
     a: &[u16],
     b: &[u16],
@@ -392,8 +382,6 @@ fn sum_of(
     g: &[u16],
     h: &[u16],
     i: &[u16],
-    j: &[u16],
-    k: &[u16],
 ) -> u64 {
     let mut sum = add_all(a, 0);
     sum = add_all(b, sum);
@@ -403,7 +391,5 @@ fn sum_of(
     sum = add_all(f, sum);
     sum = add_all(g, sum);
     sum = add_all(h, sum);
-    sum = add_all(i, sum);
-    sum = add_all(j, sum);
-    add_all(k, sum)
+    add_all(i, sum)
 }

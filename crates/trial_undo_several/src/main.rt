@@ -141,7 +141,7 @@ fn try_rooms() {
     );
     try_lent(6, &SPLIT_TRIANGLE, 0, 12, 18, 0);
     let mut short = 0;
-    while short < 14 {
+    while short < 12 {
         try_lent(6, &SPLIT_TRIANGLE, ALL, 12, 18, short);
         short += 1;
     }
@@ -193,8 +193,6 @@ fn split_in_place(vertices: u64, entries: usize, list: &mut [u16]) -> u64
     let mut work3: [u16; 14433] = [WORK; 14433];
     let mut work4: [u16; 14433] = [WORK; 14433];
     let mut work5: [u16; 14433] = [WORK; 14433];
-    let mut work6: [u16; 14433] = [WORK; 14433];
-    let mut work7: [u16; 14433] = [WORK; 14433];
     let answer = flatcarol_split(
         vertices,
         &list[..entries],
@@ -204,8 +202,6 @@ fn split_in_place(vertices: u64, entries: usize, list: &mut [u16]) -> u64
         &mut work3,
         &mut work4,
         &mut work5,
-        &mut work6,
-        &mut work7,
     );
     put(list, 0, &fine);
     answer.vertices
@@ -233,8 +229,6 @@ fn try_lent(vertices: u64, list: &[u16], asked: u64, corners: usize, work: usize
     let mut work8: [u16; 256] = [WORK; 256];
     let mut work9: [u16; 256] = [WORK; 256];
     let mut work10: [u16; 256] = [WORK; 256];
-    let mut work11: [u16; 256] = [WORK; 256];
-    let mut work12: [u16; 256] = [WORK; 256];
     undo_and_print(
         vertices,
         list,
@@ -250,8 +244,6 @@ fn try_lent(vertices: u64, list: &[u16], asked: u64, corners: usize, work: usize
         &mut work8[..room(work, 9, short)],
         &mut work9[..room(work, 10, short)],
         &mut work10[..room(work, 11, short)],
-        &mut work11[..room(work, 12, short)],
-        &mut work12[..room(work, 13, short)],
     );
 }
 
@@ -269,8 +261,6 @@ fn try_large(list: &[u16], asked: u64, expected: &[u16]) {
     let mut work8: [u16; 57537] = [WORK; 57537];
     let mut work9: [u16; 57537] = [WORK; 57537];
     let mut work10: [u16; 57537] = [WORK; 57537];
-    let mut work11: [u16; 57537] = [WORK; 57537];
-    let mut work12: [u16; 57537] = [WORK; 57537];
     undo_and_print(
         8385,
         list,
@@ -286,8 +276,6 @@ fn try_large(list: &[u16], asked: u64, expected: &[u16]) {
         &mut work8,
         &mut work9,
         &mut work10,
-        &mut work11,
-        &mut work12,
     );
     print_line(&[count_differences(&out, expected)]);
 }
@@ -308,8 +296,6 @@ fn undo_and_print(
     work8: &mut [u16],
     work9: &mut [u16],
     work10: &mut [u16],
-    work11: &mut [u16],
-    work12: &mut [u16],
 ) {
     let answer = flatcarol_undo_several(
         vertices,
@@ -326,8 +312,6 @@ fn undo_and_print(
         work8,
         work9,
         work10,
-        work11,
-        work12,
     );
     let triangles = answer.triangles;
     print_answer(answer);
@@ -342,8 +326,6 @@ fn undo_and_print(
         work8,
         work9,
         work10,
-        work11,
-        work12,
     );
     print_output(out, triangles, sum);
 }
@@ -379,7 +361,7 @@ fn print_output(out: &[u16], triangles: u64, sum: u64) {
     print_line(&[entry(out, end), count_others(out, end, MESH, 0), sum]);
 }
 
-// The sum of all entries of the twelve lists.
+// The sum of all entries of the ten lists.
 fn sum_of(
     a: &[u16],
     b: &[u16],
@@ -391,8 +373,6 @@ fn sum_of(
     h: &[u16],
     i: &[u16],
     j: &[u16],
-    k: &[u16],
-    l: &[u16],
 ) -> u64 {
     let mut sum = add_all(a, 0);
     sum = add_all(b, sum);
@@ -403,7 +383,5 @@ fn sum_of(
     sum = add_all(g, sum);
     sum = add_all(h, sum);
     sum = add_all(i, sum);
-    sum = add_all(j, sum);
-    sum = add_all(k, sum);
-    add_all(l, sum)
+    add_all(j, sum)
 }

@@ -21,24 +21,23 @@ use Rattle.theory.proofs.Tiles.{row-different, row-below, reached-below, reache
 use Rattle.theory.proofs.Built.{Ranked, Built}
 use Rattle.lists.specs.Marks.{marked, RanksOf}
 use Rattle.lists.specs.Tables.{Tabulated}
-use Rattle.mesh.specs.Faults.{UsedMark, used, unused, UsedMarks}
-use Rattle.mesh.specs.Reached.{Joins, Different, Corners, different, equal, Marked}
-use Rattle.mesh.proofs.Joins.{reach-joins, joins-reach}
+use Rattle.rings.specs.Tables.{Different, Corners, different, equal}
+use Rattle.faults.specs.Faults.{UsedMark, used, unused, UsedMarks}
+use Rattle.reach.specs.Reached.{Joins, Marked}
+use Rattle.reach.proofs.Joins.{reach-joins, joins-reach}
 use Rattle.tiles.specs.Selected.{Selected}
 use Rattle.tiles.specs.Claims.{Claimed}
 
 -- ---- the tables
 
--- A proper mesh of F triangles, its covering mesh with the first half-edges of that, a start tile, and the marks of
--- what is reached from it.
-pub record Searched (N F : ℕ) (T W : List ℕ) (s : ℕ) (first marks : List ℕ) : Type 0 where
+-- A proper mesh of F triangles, its covering mesh, a start tile, and the marks of what is reached from it.
+pub record Searched (N F : ℕ) (T W : List ℕ) (s : ℕ) (marks : List ℕ) : Type 0 where
   pub proper : Proper N T
   pub whole : length T ≡ 3 * F
   pub cover : Covering T W
-  pub firsts : Tabulated (firstOn W) (3 * F) first
   pub inside : s < F
   pub starts : IsTile T s
-  pub reached : Marked s F first marks
+  pub reached : Marked s F (firstOn W) marks
 
 -- The tables of the marked triangles: their ranks, their rows one after the other, the marks of the vertices in these
 -- rows and the ranks of these vertices; and the rows once more with each vertex replaced by its rank.
@@ -51,20 +50,19 @@ pub record Tables (N F : ℕ) (W marks : List ℕ) (M F′ : ℕ) (K rank tile C
   pub whole : length C ≡ 3 * F′
   pub entries : Tabulated (λ p. at rank (at K p)) (3 * F′) C
 
--- The triangle over the side of a tile that ends at corner i is the owner of the mate of the side's half-edge.
-pub record AcrossOnly (F : ℕ) (T mate owners : List ℕ) : Type 0 where
+-- The triangle over the side of a tile that ends at corner i is that of the side's other half-edge.
+pub record AcrossOnly (F : ℕ) (T other : List ℕ) : Type 0 where
   pub only : (k i l : ℕ) → k < F → IsTile T k → i < 3 → l ≢ k
-      → HasEdge T l (at T (3 * k + (i + 2) % 3)) (at T (3 * k + i)) → l ≡ at owners (at mate (3 * k + (i + 2) % 3))
+      → HasEdge T l (at T (3 * k + (i + 2) % 3)) (at T (3 * k + i)) → l ≡ at other (3 * k + (i + 2) % 3) / 3
 
 -- The tables that the maps are made from: the corners of the marked triangles one after the other, the numbers of the
 -- vertices on the coarse edges, and the triangles that are claimed for those of the splitting.
 pub record Sources (F : ℕ) (T marks : List ℕ) (M F′ : ℕ) (C corners numbers claimed : List ℕ) : Type 0 where
   pub selected : Selected F T marks F′ corners
   pub numbered : Tabulated (edgeNo M C) (3 * F′) numbers
-  pub mate : List ℕ
-  pub owners : List ℕ
-  pub claims : Claimed F marks mate owners claimed
-  pub across : AcrossOnly F T mate owners
+  pub other : List ℕ
+  pub claims : Claimed F marks other claimed
+  pub across : AcrossOnly F T other
 
 -- A table holds each of n values at its key.
 abbrev pub Held : (ℕ → ℕ) → ℕ → List ℕ → List ℕ → Type 0
@@ -126,7 +124,7 @@ passes-used (unused none) t = absurd t
 
 -- ---- the marked triangles are the reached rows
 
-module _ {N F : ℕ} {T W : List ℕ} {s : ℕ} {first marks : List ℕ} (S : Searched N F T W s first marks) where
+module _ {N F : ℕ} {T W : List ℕ} {s : ℕ} {marks : List ℕ} (S : Searched N F T W s marks) where
   -- the covering mesh has as many rows as there are triangles
   pub rows-whole : length W ≡ 3 * F
   rows-whole = S .cover .long ∙ S .whole
@@ -157,14 +155,13 @@ module _ {N F : ℕ} {T W : List ℕ} {s : ℕ} {first marks : List ℕ} (S : Se
   pub reach-tile : (k : ℕ) → Reach W s k → IsTile T k
   reach-tile k = reached-tile N T (S .proper) W (S .cover) s k (omega (arith, S .whole, S .inside)) (S .starts)
 
-  -- what is come to by the table of first half-edges is reached
-  pub joins-reached : {k : ℕ} → Joins F first s k → Reach W s k
-  joins-reached =
-      joins-reach W F rows-whole (S .firsts) row-corners (tile-different s (S .inside) (S .starts))
+  -- what is come to by the first half-edges is reached
+  pub joins-reached : {k : ℕ} → Joins F (firstOn W) s k → Reach W s k
+  joins-reached = joins-reach W F rows-whole row-corners (tile-different s (S .inside) (S .starts))
 
   -- a reached triangle is marked
   pub reach-marked : (k : ℕ) → Reach W s k → Passes (marked marks k)
-  reach-marked k q = rw (S .reached .all k (reach-inside k q) (reach-joins W F rows-whole (S .firsts) q)) tt
+  reach-marked k q = rw (S .reached .all k (reach-inside k q) (reach-joins W F rows-whole q)) tt
 
   -- and a marked one is reached
   pub marked-reach : (k : ℕ) → k < F → Passes (marked marks k) → Reach W s k
@@ -197,15 +194,15 @@ module _ {N F : ℕ} {T W : List ℕ} {s : ℕ} {first marks : List ℕ} (S : Se
       (row-below N T (S .proper) W (S .cover) (r .row) (r .on .corner % 3)
       (omega (arith, S .whole, reach-inside (r .row) (r .reached))) (reach-tile (r .row) (r .reached)) (omega arith))
 
-  -- the owner of the mate of a tile's side is another triangle that has the side
-  pub across-other : {mate owners : List ℕ} → AcrossOnly F T mate owners → (k i : ℕ) → Reach W s k → i < 3
-      → (at owners (at mate (3 * k + (i + 2) % 3)) ≢ k)
-      × HasEdge T (at owners (at mate (3 * k + (i + 2) % 3))) (at T (3 * k + (i + 2) % 3)) (at T (3 * k + i))
-  across-other {mate} {owners} across k i q b = go (regular-other T k _ _ (reach-tile k q .regular i b))
+  -- the triangle of the other half-edge of a tile's side is another one that has the side
+  pub across-other : {other : List ℕ} → AcrossOnly F T other → (k i : ℕ) → Reach W s k → i < 3
+      → (at other (3 * k + (i + 2) % 3) / 3 ≢ k)
+      × HasEdge T (at other (3 * k + (i + 2) % 3) / 3) (at T (3 * k + (i + 2) % 3)) (at T (3 * k + i))
+  across-other {other} across k i q b = go (regular-other T k _ _ (reach-tile k q .regular i b))
     where
       go : (l : ℕ) × HasEdge T l (at T (3 * k + (i + 2) % 3)) (at T (3 * k + i)) × (l ≢ k)
-          → (at owners (at mate (3 * k + (i + 2) % 3)) ≢ k)
-          × HasEdge T (at owners (at mate (3 * k + (i + 2) % 3))) (at T (3 * k + (i + 2) % 3)) (at T (3 * k + i))
+          → (at other (3 * k + (i + 2) % 3) / 3 ≢ k)
+          × HasEdge T (at other (3 * k + (i + 2) % 3) / 3) (at T (3 * k + (i + 2) % 3)) (at T (3 * k + i))
       go (l, h, n) = rw (← across .only k i l (reach-inside k q) (reach-tile k q) b n h) (n, h)
 
   -- ---- the numbers of the reached rows
@@ -243,14 +240,14 @@ module _ {N F : ℕ} {T W : List ℕ} {s : ℕ} {first marks : List ℕ} (S : Se
 
     -- ---- the claimed triangles
 
-    module _ {mate owners claimed : List ℕ} (Y : Claimed F marks mate owners claimed) where
+    module _ {other claimed : List ℕ} (Y : Claimed F marks other claimed) where
       -- for the centre of a reached row's coarse triangle the row's tile is claimed
       pub claimed-centre : (k : ℕ) → Reach W s k → at claimed (4 * at tile k) ≡ k
       claimed-centre k q = rw (tile-count k q) (Y .centre k (reach-inside k q) (reach-marked k q))
 
       -- and for its corner i the triangle over the side of the tile that ends there
       pub claimed-corner : (k i : ℕ) → Reach W s k → i < 3
-          → at claimed (4 * at tile k + suc i) ≡ at owners (at mate (3 * k + (i + 2) % 3))
+          → at claimed (4 * at tile k + suc i) ≡ at other (3 * k + (i + 2) % 3) / 3
       claimed-corner k i q b = rw (tile-count k q) (Y .corner k i (reach-inside k q) (reach-marked k q) b)
 
     -- ---- the selected rows

@@ -57,7 +57,7 @@ pub scattered-twice : (f : List ℕ) {value value′ : ℕ → ℕ} {n n′ : �
 scattered-twice f {keys = keys} S holds S′ holds′ p l =
     scattered-keeps f S′ holds′ (at keys p) (scattered-hits f S holds p l ∙ sym (holds p l)) ∙ holds p l
 
-module _ {N F : ℕ} {T W : List ℕ} {s : ℕ} {first marks : List ℕ} (S : Searched N F T W s first marks)
+module _ {N F : ℕ} {T W : List ℕ} {s : ℕ} {marks : List ℕ} (S : Searched N F T W s marks)
     {ρ : ℕ} {r : Reading} (R : Returned Same N T ρ r) (start : Start T ρ s) where
   -- ---- the counts
 
@@ -115,8 +115,8 @@ module _ {N F : ℕ} {T W : List ℕ} {s : ℕ} {first marks : List ℕ} (S : Se
     -- ---- the reading's triangle map
 
     -- the map holds each triangle of the splitting at the one that is claimed for it
-    pub returned-once : {mate owners claimed : List ℕ} → Claimed F marks mate owners claimed
-        → AcrossOnly F T mate owners → Held (λ t. t) F claimed (r .triangleMap)
+    pub returned-once : {other claimed : List ℕ} → Claimed F marks other claimed
+        → AcrossOnly F T other → Held (λ t. t) F claimed (r .triangleMap)
     returned-once {claimed = claimed} claims across t l =
         by-four S (B .tiles) (λ (u : ℕ). at (r .triangleMap) (at claimed u) ≡ u)
         (λ k q. ap (at (r .triangleMap)) (claimed-centre S (B .tiles) claims k q) ∙ returned-found .centres k q)
@@ -147,8 +147,8 @@ module _ {N F : ℕ} {T W : List ℕ} {s : ℕ} {first marks : List ℕ} (S : Se
         (found-kept S B vm kept) (found-between S B vm selected numbered between)
 
     -- and so does a triangle map that passes at the claimed triangles
-    pub passed-triangles : (tm : List ℕ) {mate owners claimed : List ℕ} → Claimed F marks mate owners claimed
-        → AcrossOnly F T mate owners → Held (λ t. t) F claimed tm
+    pub passed-triangles : (tm : List ℕ) {other claimed : List ℕ} → Claimed F marks other claimed
+        → AcrossOnly F T other → Held (λ t. t) F claimed tm
         → (k : ℕ) → k < F → at tm k ≡ at (r .triangleMap) k
     passed-triangles tm claims across once k l =
         let quarter : F ≡ 4 * F′ = omega (arith, returned-quarter, B .tiles .all) in

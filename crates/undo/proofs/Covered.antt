@@ -1,70 +1,63 @@
 -- What the calls of `cover` are lent, each from what it is lent itself and from the calls before, and what it makes.
-use Prim.Native.Nat.{ℕ, _*_, _≤_}
+use Prim.Native.Nat.{ℕ, _*_}
 use native.Mathlib.Omega.{arith}
 use mathlib.Core.Path.{_≡_}
 use mathlib.Core.List.{List}
 use lib.ListN.{length, take}
 use lib.Seq.{length-take-le}
+use Rattle.theory.specs.Splitting.{firstOn}
 use Rattle.lists.specs.Tables.{Tabulated}
-use Rattle.mesh.specs.Tables.{third, owner, EdgesLent, EdgeTable}
-use Rattle.mesh.proofs.Firsts.{first-le, first-own}
-use Rattle.tiles.specs.Tiles.{MatesLent, Mated, RowsOf}
+use Rattle.rings.specs.Tables.{third}
+use Rattle.rings.specs.Ring.{RingBy}
+use Rattle.rings.specs.Making.{RingLent}
+use Rattle.rings.specs.Others.{OthersLent, OthersOf}
+use Rattle.rings.proofs.Facts.{ring-below, others-found}
+use Rattle.tiles.specs.Tiles.{RowsOf}
 use Rattle.undo.specs.Cover.{CoverLent, CoverMade}
 use Rattle.undo.proofs.Covers.{Tabled, rows-listed}
 
-module _ {N F : ℕ} {T first link mate₀ tiles₀ owners₀ work1 work2 work3 work4 : List ℕ}
-    (L : CoverLent N F T first link mate₀ tiles₀ owners₀ work1 work2 work3 work4) where
-  -- half-edges have mates by the mesh's edge table
-  pub cover-mates : MatesLent (3 * F) first link mate₀
-  cover-mates = record {
+module _ {N F : ℕ} {T other₀ tiles₀ ring₀ work1 work2 work3 work4 : List ℕ}
+    (L : CoverLent N F T other₀ tiles₀ ring₀ work1 work2 work3 work4) where
+  -- the other half-edges are found by the mesh's rings
+  pub cover-others : OthersLent (3 * F) ring₀ other₀
+  cover-others = record {
     small = L .small;
-    firstRoom = omega (arith, L .firstRoom);
-    linkRoom = omega (arith, L .linkRoom);
-    mateRoom = omega (arith, L .mateRoom);
-    firstWithin = first-le T (L .table .firsts);
-    firstOwn = first-own T (L .table .firsts);
-    links = L .table .chained .links;
+    linked = omega (arith, L .ringRoom);
+    below = ring-below (L .ringed);
+    roomy = omega (arith, L .otherRoom);
   }
 
   -- a list that is as long as the rows' buffer has a front for them
   pub cover-part : (tiles : List ℕ) → length tiles ≡ length tiles₀ → length (take (3 * F) tiles) ≡ 3 * F
   cover-part tiles e = length-take-le (3 * F) tiles (omega (arith, L .tilesRoom))
 
-  -- one that is as long as the owners' buffer has room for these
-  pub cover-owners : (owners : List ℕ) → length owners ≡ length owners₀ → 3 * F ≤ length owners
-  cover-owners owners e = omega (arith, L .ownersRoom)
-
-  module _ {mate thirds tiles : List ℕ} (m : Mated (3 * F) first mate) (t : Tabulated (third T) (3 * F) thirds)
-      (r : RowsOf F mate thirds tiles) where
+  module _ {other thirds tiles : List ℕ} (o : OthersOf (3 * F) ring₀ other) (t : Tabulated (third T) (3 * F) thirds)
+      (r : RowsOf F other thirds tiles) where
     -- the tables of the mesh
-    cover-tabled : Tabled N F T first mate thirds
+    cover-tabled : Tabled N F T other thirds
     cover-tabled =
-        record { proper = L .proper; whole = L .whole; firsts = L .table .firsts; mated = m; tabled = t }
+        record { proper = L .proper; whole = L .whole; others = others-found (L .ringed) o; tabled = t }
 
-    -- the rows are a list of triangles, which have an edge table
-    pub cover-edges : length tiles ≡ length tiles₀
-        → EdgesLent N F (take (3 * F) tiles) work1 work2 work3 link work4 first
-    cover-edges e = record {
+    -- the rows are a list of triangles, which have rings
+    pub cover-rings : length thirds ≡ length work1 → length tiles ≡ length tiles₀
+        → RingLent N F (take (3 * F) tiles) thirds work2 work3 work4 ring₀
+    cover-rings d e = record {
       listed = rows-listed cover-tabled tiles (omega (arith, L .tilesRoom)) r (L .small);
-      lesserRoom = L .work1Room;
-      greaterRoom = L .work2Room;
-      headRoom = L .work3Room;
-      linkRoom = L .linkRoom;
-      seenRoom = L .work4Room;
-      firstRoom = L .firstRoom;
+      bound = L .bound;
+      greaterRoom = record { room = omega (arith, L .work1Room) };
+      headRoom = L .work2Room;
+      stampRoom = L .work3Room;
+      lastRoom = L .work4Room;
+      ringRoom = L .ringRoom;
     }
 
     -- all that is made
-    pub cover-made : {head link′ first′ owners : List ℕ} → EdgeTable F (take (3 * F) tiles) head link′ first′
-        → Tabulated owner (3 * F) owners → CoverMade F T first′ link′ mate tiles owners
-    cover-made {head = head} table owned = record {
-      firstT = first;
-      firsts = L .table .firsts;
-      mated = m;
+    pub cover-made : {ring : List ℕ} → RingBy (3 * F) (firstOn (take (3 * F) tiles)) ring
+        → CoverMade F T other tiles ring
+    cover-made ringed = record {
+      others = cover-tabled .others;
       thirds = thirds;
       tabled = t;
       rows = r;
-      head = head;
-      table = table;
-      owned = owned;
+      ringed = ringed;
     }

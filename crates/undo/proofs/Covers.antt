@@ -1,6 +1,6 @@
--- What the tables of mates and rows say of the mesh. A half-edge has a mate exactly if its edge is regular; the mate's
--- triangle is the other one on the edge, and its third vertex the vertex across. So the rows are those of the covering
--- mesh.
+-- What the tables of other half-edges and of rows say of the mesh. A half-edge has a mate exactly if its edge is
+-- regular; the mate's triangle is the other one on the edge, and its third vertex the vertex across. So the rows are
+-- those of the covering mesh.
 use Prim.Native.Nat.{ℕ, suc, _+_, _*_, _/_, _%_, _≤_, _<_}
 use native.Mathlib.Nat.{add-zero}
 use native.Mathlib.Omega.{arith}
@@ -13,26 +13,25 @@ use Rattle.theory.specs.Mesh.{at, On, HasEdge, Regular, OtherwiseProper}
 use Rattle.theory.specs.Splitting.{next, firstOn}
 use Rattle.theory.specs.Reading.{Across}
 use Rattle.theory.proofs.Mesh.{regular-other, regular-only, across-edge, edge-across, on-vertex}
-use Rattle.theory.proofs.Splitting.{SameEdge, edgeNo-same}
+use Rattle.theory.proofs.Splitting.{SameEdge, firstOn-cong, edgeNo-same}
 use Rattle.theory.proofs.Heart.{edgeNo-within}
 use Rattle.theory.proofs.Rows.{Opposite}
 use Rattle.theory.proofs.Tiles.{IsTile, Row, tile, flat, Covering, Start, beside}
 use Rattle.lists.specs.Tables.{Tabulated}
 use Rattle.lists.proofs.Lists.{by-eq, at-take}
-use Rattle.mesh.specs.Tables.{third, owner, Listed}
-use Rattle.mesh.specs.Reached.{Corners, different, equal}
-use Rattle.mesh.proofs.Firsts.{first-sameEdge, sameEdge-first}
-use Rattle.mesh.proofs.Sides.{far, corner-on, End, end, otherEnd, end-moved, sameEdge-hasEdge}
-use Rattle.mesh.proofs.Sides.{Side, edge-side, side-third}
-use Rattle.tiles.specs.Tiles.{Mates, Mate, across, none, Mated, opposite, HasRow, RowOf, RowsOf}
+use Rattle.rings.specs.Tables.{third, Listed}
+use Rattle.rings.specs.Others.{Mates, OtherOf, alone, mate, several, Othered, HasMate}
+use Rattle.rings.proofs.EdgeRings.{first-sameEdge}
+use Rattle.rings.proofs.Sides.{far, corner-on, End, end, otherEnd, end-moved, sameEdge-hasEdge}
+use Rattle.rings.proofs.Sides.{Side, edge-side, side-third}
+use Rattle.tiles.specs.Tiles.{opposite, HasRow, RowOf, RowsOf}
 use Rattle.tiles.specs.Tiles.{tile as hasRow, flat as hasNone}
 
--- a mesh of F triangles, but for being connected, with its tables: first half-edges, mates, third vertices
-pub record Tabled (N F : ℕ) (T first mate thirds : List ℕ) : Type 0 where
+-- a mesh of F triangles, but for being connected, with its tables: other half-edges and third vertices
+pub record Tabled (N F : ℕ) (T other thirds : List ℕ) : Type 0 where
   pub proper : OtherwiseProper N T
   pub whole : length T ≡ 3 * F
-  pub firsts : Tabulated (firstOn T) (3 * F) first
-  pub mated : Mated (3 * F) first mate
+  pub others : Othered (3 * F) (firstOn T) other
   pub tabled : Tabulated (third T) (3 * F) thirds
 
 -- triangle l is the other one, beside triangle k, on the edge u-v
@@ -74,14 +73,14 @@ facing-to i b = omega arith
 facing-triangle : (i : ℕ) → facing i / 3 ≡ 0
 facing-triangle i = omega arith
 
-module _ {N F : ℕ} {T first mate thirds : List ℕ} (D : Tabled N F T first mate thirds) where
+module _ {N F : ℕ} {T other thirds : List ℕ} (D : Tabled N F T other thirds) where
   -- ---- edges and their half-edges
 
   -- within one triangle an edge has one half-edge
-  one-half : (g h : ℕ) → g < 3 * F → h < 3 * F → g / 3 ≡ h / 3 → at first g ≡ at first h → g ≡ h
+  one-half : (g h : ℕ) → g < 3 * F → h < 3 * F → g / 3 ≡ h / 3 → firstOn T g ≡ firstOn T h → g ≡ h
   one-half g h a b t e =
       edgeNo-within N T (D .proper) g h (omega (arith, D .whole)) (omega (arith, D .whole)) t
-      (edgeNo-same N T g h (first-sameEdge T (D .firsts) g h a b e))
+      (edgeNo-same N T g h (first-sameEdge T g h e))
 
   -- different corners of a triangle hold different vertices
   corners-differ : (c d : ℕ) → c < 3 * F → c / 3 ≡ d / 3 → c ≢ d → at T c ≢ at T d
@@ -97,14 +96,14 @@ module _ {N F : ℕ} {T first mate thirds : List ℕ} (D : Tabled N F T first ma
   third-differs h b (otherEnd e) p = corners-differ (far h) (next h) (omega arith) (omega arith) (omega arith) (p ∙ e)
 
   -- the triangle of a half-edge on the edge of h has this edge
-  half-edge : (g h : ℕ) → g < 3 * F → h < 3 * F → at first g ≡ at first h → HasEdge T (g / 3) (at T h) (at T (next h))
+  half-edge : (g h : ℕ) → g < 3 * F → h < 3 * F → firstOn T g ≡ firstOn T h → HasEdge T (g / 3) (at T h) (at T (next h))
   half-edge g h a b e =
       sameEdge-hasEdge (record { whole = D .whole; inside = a; triangle = refl })
-      (first-sameEdge T (D .firsts) h g b a (sym e)) (ends-differ h b)
+      (first-sameEdge T h g (sym e)) (ends-differ h b)
 
   -- and a triangle that has the edge has a half-edge on it
   edge-half : (h : ℕ) → h < 3 * F → {k : ℕ} → HasEdge T k (at T h) (at T (next h))
-      → (g : ℕ) × (g < 3 * F) × (g / 3 ≡ k) × (at first g ≡ at first h)
+      → (g : ℕ) × (g < 3 * F) × (g / 3 ≡ k) × (firstOn T g ≡ firstOn T h)
   edge-half h b {k} e = (s .half, inside, s .triangle, same)
     where
       s : Side T k (at T h) (at T (next h))
@@ -113,17 +112,17 @@ module _ {N F : ℕ} {T first mate thirds : List ℕ} (D : Tabled N F T first ma
       inside : s .half < 3 * F
       inside = omega (arith, s .inside, D .whole)
 
-      same : at first (s .half) ≡ at first h
-      same = sameEdge-first T (D .firsts) (s .half) h inside b (record { low = s .low; high = s .high })
+      same : firstOn T (s .half) ≡ firstOn T h
+      same = firstOn-cong T (s .half) h (record { low = s .low; high = s .high })
 
   -- ---- mates and regular edges
 
   -- the triangles of mates are different
-  mates-apart : {h g : ℕ} → h < 3 * F → Mates (3 * F) first h g → g / 3 ≢ h / 3
-  mates-apart {h} {g} b M t = M .other (one-half g h (M .inside) b t (M .same))
+  mates-apart : {h g : ℕ} → h < 3 * F → Mates (3 * F) (firstOn T) h g → g / 3 ≢ h / 3
+  mates-apart {h} {g} b M t = M .another (one-half g h (M .inside) b t (M .same))
 
   -- a half-edge that has a mate is on a regular edge
-  mates-regular : {h g : ℕ} → h < 3 * F → Mates (3 * F) first h g → Regular T (at T h) (at T (next h))
+  mates-regular : {h g : ℕ} → h < 3 * F → Mates (3 * F) (firstOn T) h g → Regular T (at T h) (at T (next h))
   mates-regular {h} {g} b M =
       record {
         one = h / 3;
@@ -134,24 +133,24 @@ module _ {N F : ℕ} {T first mate thirds : List ℕ} (D : Tabled N F T first ma
         others = λ k e. go (edge-half h b e);
       }
     where
-      go : {k : ℕ} → (f : ℕ) × (f < 3 * F) × (f / 3 ≡ k) × (at first f ≡ at first h) → (k ≡ h / 3) ⊎ (k ≡ g / 3)
+      go : {k : ℕ} → (f : ℕ) × (f < 3 * F) × (f / 3 ≡ k) × (firstOn T f ≡ firstOn T h) → (k ≡ h / 3) ⊎ (k ≡ g / 3)
       go (f, a, t, s) = elim (M .only f a s) [
         | inl p ↦ inl (sym t ∙ ap (λ c. c / 3) p)
         | inr p ↦ inr (sym t ∙ ap (λ c. c / 3) p)
       ]
 
   -- and a half-edge on a regular edge has a mate: the half-edge of the other triangle
-  regular-mates : (h : ℕ) → h < 3 * F → Regular T (at T h) (at T (next h)) → (g : ℕ) × Mates (3 * F) first h g
-  regular-mates h b R = other (regular-other T (h / 3) _ _ R)
+  regular-mates : (h : ℕ) → h < 3 * F → Regular T (at T h) (at T (next h)) → (g : ℕ) × Mates (3 * F) (firstOn T) h g
+  regular-mates h b R = there (regular-other T (h / 3) _ _ R)
     where
-      found : {l : ℕ} → l ≢ h / 3 → (g : ℕ) × (g < 3 * F) × (g / 3 ≡ l) × (at first g ≡ at first h)
-          → (g : ℕ) × Mates (3 * F) first h g
+      found : {l : ℕ} → l ≢ h / 3 → (g : ℕ) × (g < 3 * F) × (g / 3 ≡ l) × (firstOn T g ≡ firstOn T h)
+          → (g : ℕ) × Mates (3 * F) (firstOn T) h g
       found n (g, a, t, s) = (
         g,
-        record { inside = a; other = λ p. n (sym t ∙ ap (λ c. c / 3) p); same = s; only = only },
+        record { inside = a; another = λ p. n (sym t ∙ ap (λ c. c / 3) p); same = s; only = only },
       )
         where
-          only : (f : ℕ) → f < 3 * F → at first f ≡ at first h → (f ≡ h) ⊎ (f ≡ g)
+          only : (f : ℕ) → f < 3 * F → firstOn T f ≡ firstOn T h → (f ≡ h) ⊎ (f ≡ g)
           only f c q =
               by-eq (f / 3) (h / 3)
               (λ p. inl (one-half f h c b p q))
@@ -160,74 +159,88 @@ module _ {N F : ℕ} {T first mate thirds : List ℕ} (D : Tabled N F T first ma
               (half-edge g h a b s) p (λ u. n (sym t ∙ u)))
               (q ∙ sym s)))
 
-      other : (l : ℕ) × HasEdge T l (at T h) (at T (next h)) × (l ≢ h / 3) → (g : ℕ) × Mates (3 * F) first h g
-      other (l, e, n) = found n (edge-half h b e)
+      there : (l : ℕ) × HasEdge T l (at T h) (at T (next h)) × (l ≢ h / 3) → (g : ℕ) × Mates (3 * F) (firstOn T) h g
+      there (l, e, n) = found n (edge-half h b e)
 
-  -- an entry below 3F is the mate
-  mate-mates : (h : ℕ) → h < 3 * F → at mate h < 3 * F → Mates (3 * F) first h (at mate h)
-  mate-mates h b = go (D .mated .entry h b)
+  -- where the table has a mate, it is the one
+  other-mates : (h : ℕ) → h < 3 * F → HasMate (3 * F) other h → Mates (3 * F) (firstOn T) h (at other h)
+  other-mates h b m = go (D .others .entry h b) (m .inside) (m .another)
     where
-      go : {g : ℕ} → Mate (3 * F) first h g → g < 3 * F → Mates (3 * F) first h g
-      go (across M) l = M
-      go (none _) l = absurd (omega arith)
+      go : {g : ℕ} → OtherOf (3 * F) (firstOn T) h g → g < 3 * F → g ≢ h → Mates (3 * F) (firstOn T) h g
+      go (alone _) l n = absurd (n refl)
+      go (mate M) l n = M
+      go (several _ _ _ _ _ _ _ _ _) l n = absurd (omega arith)
+
+  -- and where there is one, the table has it
+  mates-other : {h f : ℕ} → h < 3 * F → Mates (3 * F) (firstOn T) h f → HasMate (3 * F) other h
+  mates-other {h} {f} b M = record {
+    inside = go (D .others .entry h b) .0;
+    another = go (D .others .entry h b) .1;
+  }
+    where
+      go : {g : ℕ} → OtherOf (3 * F) (firstOn T) h g → (g < 3 * F) × (g ≢ h)
+      go (alone only) = absurd (M .another (only f (M .inside) (M .same)))
+      go (mate A) = (A .inside, A .another)
+      go (several d e a c nd ne n p q) = absurd (no-third (M .only d a p) (M .only e c q))
+        where
+          no-third : (d ≡ h) ⊎ (d ≡ f) → (e ≡ h) ⊎ (e ≡ f) → ⊥
+          no-third (inl x) _ = nd x
+          no-third (inr _) (inl y) = ne y
+          no-third (inr x) (inr y) = n (x ∙ sym y)
 
   -- so the edges with mates in the table are the regular ones
-  pub mate-regular : (h : ℕ) → h < 3 * F → at mate h < 3 * F → Regular T (at T h) (at T (next h))
-  mate-regular h b l = mates-regular b (mate-mates h b l)
+  pub mate-regular : (h : ℕ) → h < 3 * F → HasMate (3 * F) other h → Regular T (at T h) (at T (next h))
+  mate-regular h b m = mates-regular b (other-mates h b m)
 
-  pub regular-mate : (h : ℕ) → h < 3 * F → Regular T (at T h) (at T (next h)) → at mate h < 3 * F
-  regular-mate h b R = go (D .mated .entry h b) (regular-mates h b R)
-    where
-      go : {g : ℕ} → Mate (3 * F) first h g → (f : ℕ) × Mates (3 * F) first h f → g < 3 * F
-      go (across M) _ = M .inside
-      go (none refuted) (f, M) = absurd (refuted f M)
+  pub regular-mate : (h : ℕ) → h < 3 * F → Regular T (at T h) (at T (next h)) → HasMate (3 * F) other h
+  regular-mate h b R = mates-other b (regular-mates h b R .1)
 
   -- ---- the triangle and the vertex across
 
-  module _ (h : ℕ) (b : h < 3 * F) (l : at mate h < 3 * F) where
-    mates : Mates (3 * F) first h (at mate h)
-    mates = mate-mates h b l
+  module _ (h : ℕ) (b : h < 3 * F) (m : HasMate (3 * F) other h) where
+    mates : Mates (3 * F) (firstOn T) h (at other h)
+    mates = other-mates h b m
 
     -- the mate's triangle has the edge
-    mate-edge : HasEdge T (at mate h / 3) (at T h) (at T (next h))
-    mate-edge = half-edge (at mate h) h l b (mates .same)
+    mate-edge : HasEdge T (at other h / 3) (at T h) (at T (next h))
+    mate-edge = half-edge (at other h) h (m .inside) b (mates .same)
 
     -- and is the only other one that has it
-    pub mate-beside : Beside T (h / 3) (at T h) (at T (next h)) (at mate h / 3)
+    pub mate-beside : Beside T (h / 3) (at T h) (at T (next h)) (at other h / 3)
     mate-beside =
         record {
           another = mates-apart b mates;
           has = mate-edge;
-          only = λ m n e.
-              regular-only T (h / 3) m (at mate h / 3) _ _ (mate-regular h b l) (half-edge h h b b refl) e mate-edge n
+          only = λ l n e.
+              regular-only T (h / 3) l (at other h / 3) _ _ (mate-regular h b m) (half-edge h h b b refl) e mate-edge n
               (mates-apart b mates);
         }
 
     -- its third vertex stands across the edge
-    mate-across : Across T (h / 3) (at T h) (at T (next h)) (third T (at mate h))
+    mate-across : Across T (h / 3) (at T h) (at T (next h)) (third T (at other h))
     mate-across =
         edge-across mate-edge (mates-apart b mates)
-        (corner-on (far (at mate h)) (omega (arith, D .whole)) (omega arith) refl)
-        (third-differs (at mate h) l (end-moved same (end refl)))
-        (third-differs (at mate h) l (end-moved same (otherEnd refl)))
+        (corner-on (far (at other h)) (omega (arith, D .whole, m .inside)) (omega arith) refl)
+        (third-differs (at other h) (m .inside) (end-moved same (end refl)))
+        (third-differs (at other h) (m .inside) (end-moved same (otherEnd refl)))
       where
-        same : SameEdge T h (at mate h)
-        same = first-sameEdge T (D .firsts) h (at mate h) b l (sym (mates .same))
+        same : SameEdge T h (at other h)
+        same = first-sameEdge T h (at other h) (sym (mates .same))
 
     -- and no other vertex does
-    across-mate : {w : ℕ} → Across T (h / 3) (at T h) (at T (next h)) w → w ≡ third T (at mate h)
-    across-mate {w} a = sym (side-third side (subst (λ m. On T m w) there (a .hasW)) (a .notU) (a .notV))
+    across-mate : {w : ℕ} → Across T (h / 3) (at T h) (at T (next h)) w → w ≡ third T (at other h)
+    across-mate {w} a = sym (side-third side (subst (λ l. On T l w) there (a .hasW)) (a .notU) (a .notV))
       where
-        there : a .other ≡ at mate h / 3
+        there : a .other ≡ at other h / 3
         there = mate-beside .only (a .other) (a .another) (across-edge (ends-differ h b) a)
 
-        same : SameEdge T (at mate h) h
-        same = first-sameEdge T (D .firsts) (at mate h) h l b (mates .same)
+        same : SameEdge T (at other h) h
+        same = first-sameEdge T (at other h) h (mates .same)
 
-        side : Side T (at mate h / 3) (at T h) (at T (next h))
+        side : Side T (at other h / 3) (at T h) (at T (next h))
         side = record {
-          half = at mate h;
-          inside = omega (arith, D .whole);
+          half = at other h;
+          inside = omega (arith, D .whole, m .inside);
           triangle = refl;
           low = same .low;
           high = same .high;
@@ -235,27 +248,27 @@ module _ {N F : ℕ} {T first mate thirds : List ℕ} (D : Tabled N F T first ma
 
   -- ---- the start of a role
 
-  module _ (some : 0 < F) {owners : List ℕ} (O : Tabulated owner (3 * F) owners) (i : ℕ) (b : i < 3) where
+  module _ (some : 0 < F) (i : ℕ) (b : i < 3) where
     -- where the side opposite corner i of triangle 0 has a mate, the mate's triangle is the other one on it
-    facing-beside : at mate (facing i) < 3 * F
-        → Beside T 0 (at T ((i + 1) % 3)) (at T ((i + 2) % 3)) (at owners (at mate (facing i)))
-    facing-beside l =
-        rw (← facing-from i, O .entry (at mate (facing i)) l)
-        (rw (facing-to i b, facing-triangle i) at (mate-beside (facing i) (omega arith) l))
+    facing-beside : HasMate (3 * F) other (facing i)
+        → Beside T 0 (at T ((i + 1) % 3)) (at T ((i + 2) % 3)) (at other (facing i) / 3)
+    facing-beside m =
+        rw (← facing-from i)
+        (rw (facing-to i b, facing-triangle i) at (mate-beside (facing i) (omega arith) m))
 
     -- so it is the start
-    pub mate-start : at mate (facing i) < 3 * F → Start T (suc i) (at owners (at mate (facing i)))
-    mate-start l = beside i _ b (facing-beside l .another) regular (facing-beside l .has)
+    pub mate-start : HasMate (3 * F) other (facing i) → Start T (suc i) (at other (facing i) / 3)
+    mate-start m = beside i _ b (facing-beside m .another) regular (facing-beside m .has)
       where
         regular : Regular T (at T ((i + 1) % 3)) (at T ((i + 2) % 3))
-        regular = rw (← facing-from i, ← facing-to i b) (mate-regular (facing i) (omega arith) l)
+        regular = rw (← facing-from i, ← facing-to i b) (mate-regular (facing i) (omega arith) m)
 
     -- and where there is a start, the side has a mate, whose triangle is the start
-    pub start-mate : {s : ℕ} → Start T (suc i) s → (at mate (facing i) < 3 * F) × (s ≡ at owners (at mate (facing i)))
-    start-mate (beside _ s _ n R e) = (l, facing-beside l .only s n e)
+    pub start-mate : {s : ℕ} → Start T (suc i) s → HasMate (3 * F) other (facing i) × (s ≡ at other (facing i) / 3)
+    start-mate (beside _ s _ n R e) = (m, facing-beside m .only s n e)
       where
-        l : at mate (facing i) < 3 * F
-        l = regular-mate (facing i) (omega arith) (rw (facing-to i b, facing-from i) R)
+        m : HasMate (3 * F) other (facing i)
+        m = regular-mate (facing i) (omega arith) (rw (facing-to i b, facing-from i) R)
 
   -- ---- tiles
 
@@ -264,33 +277,33 @@ module _ {N F : ℕ} {T first mate thirds : List ℕ} (D : Tabled N F T first ma
     ending-inside : (i : ℕ) → ending k i < 3 * F
     ending-inside i = omega arith
 
-    module _ (i : ℕ) (b : i < 3) (m : at mate (ending k i) < 3 * F) where
+    module _ (i : ℕ) (b : i < 3) (m : HasMate (3 * F) other (ending k i)) where
       -- the edge that ends at corner i is regular
       ending-regular : Regular T (at T (ending k i)) (at T (3 * k + i))
       ending-regular = rw (ending-next k i b) at (mate-regular (ending k i) (ending-inside i) m)
 
       -- the triangle of the mate is the one beside
-      ending-beside : Beside T k (at T (ending k i)) (at T (3 * k + i)) (at mate (ending k i) / 3)
+      ending-beside : Beside T k (at T (ending k i)) (at T (3 * k + i)) (at other (ending k i) / 3)
       ending-beside = rw (ending-next k i b, ending-triangle k i) at (mate-beside (ending k i) (ending-inside i) m)
 
       -- the entry of the third vertices is that of the mate
-      entry-third : opposite mate thirds k i ≡ third T (at mate (ending k i))
-      entry-third = D .tabled .entry (at mate (ending k i)) m
+      entry-third : opposite other thirds k i ≡ third T (at other (ending k i))
+      entry-third = D .tabled .entry (at other (ending k i)) (m .inside)
 
       -- and stands opposite corner i
-      ending-opposite : Opposite T k i (opposite mate thirds k i)
+      ending-opposite : Opposite T k i (opposite other thirds k i)
       ending-opposite =
           rw entry-third
           (rw (ending-next k i b, ending-triangle k i) at (mate-across (ending k i) (ending-inside i) m))
 
       -- alone
-      opposite-ending : {w : ℕ} → Opposite T k i w → w ≡ opposite mate thirds k i
+      opposite-ending : {w : ℕ} → Opposite T k i w → w ≡ opposite other thirds k i
       opposite-ending a =
           across-mate (ending k i) (ending-inside i) m (rw (ending-next k i b, ending-triangle k i) a)
           ∙ sym entry-third
 
     -- a triangle that has a row is a tile
-    row-tile : HasRow F mate thirds k → IsTile T k
+    row-tile : HasRow F other thirds k → IsTile T k
     row-tile H =
         record {
           regular = λ i b. ending-regular i b (H .mated ((i + 2) % 3) (omega arith));
@@ -301,28 +314,27 @@ module _ {N F : ℕ} {T first mate thirds : List ℕ} (D : Tabled N F T first ma
         }
 
     -- the edges of a tile have mates
-    tile-mated : IsTile T k → (i : ℕ) → i < 3 → at mate (ending k i) < 3 * F
+    tile-mated : IsTile T k → (i : ℕ) → i < 3 → HasMate (3 * F) other (ending k i)
     tile-mated t i b = regular-mate (ending k i) (ending-inside i) (rw (ending-next k i b) (t .regular i b))
 
     -- so it has a row
-    pub tile-row : IsTile T k → HasRow F mate thirds k
+    pub tile-row : IsTile T k → HasRow F other thirds k
     tile-row t =
         record {
           mated = λ i b. rw (ending-after k i b) at (tile-mated t ((i + 1) % 3) (omega arith));
           apart = λ i j a b e.
-              t .apart i j (opposite mate thirds k i) a b (ending-opposite i a (tile-mated t i a))
+              t .apart i j (opposite other thirds k i) a b (ending-opposite i a (tile-mated t i a))
               (subst (Opposite T k j) (sym e) (ending-opposite j b (tile-mated t j b)));
         }
 
     -- the triangles over the sides of a tile are those of the mates
-    pub tile-beside : {owners : List ℕ} → Tabulated owner (3 * F) owners → IsTile T k → (i : ℕ) → i < 3
-        → Beside T k (at T (ending k i)) (at T (3 * k + i)) (at owners (at mate (ending k i)))
-    tile-beside O t i b =
-        rw (O .entry (at mate (ending k i)) (tile-mated t i b)) (ending-beside i b (tile-mated t i b))
+    pub tile-beside : IsTile T k → (i : ℕ) → i < 3
+        → Beside T k (at T (ending k i)) (at T (3 * k + i)) (at other (ending k i) / 3)
+    tile-beside t i b = ending-beside i b (tile-mated t i b)
 
   -- ---- the rows
 
-  module _ (rows : List ℕ) (room : 3 * F ≤ length rows) (R : RowsOf F mate thirds rows) where
+  module _ (rows : List ℕ) (room : 3 * F ≤ length rows) (R : RowsOf F other thirds rows) where
     -- the rows are as many as the triangles
     rows-long : length (take (3 * F) rows) ≡ 3 * F
     rows-long = length-take-le (3 * F) rows room
@@ -338,7 +350,7 @@ module _ {N F : ℕ} {T first mate thirds : List ℕ} (D : Tabled N F T first ma
         row : (k : ℕ) → k < F → Row T (take (3 * F) rows) k
         row k l = go (R .row k l)
           where
-            go : RowOf F mate thirds k rows → Row T (take (3 * F) rows) k
+            go : RowOf F other thirds k rows → Row T (take (3 * F) rows) k
             go (hasRow H e) =
                 tile (row-tile k l H)
                 (λ i b. rw (rows-at k i l b, e i b) (ending-opposite k l i b (H .mated ((i + 2) % 3) (omega arith))))
@@ -346,22 +358,11 @@ module _ {N F : ℕ} {T first mate thirds : List ℕ} (D : Tabled N F T first ma
                 flat (λ t. refuted (tile-row k l t))
                 (λ i j a b. rows-at k i l a ∙ e i a ∙ sym (e j b) ∙ sym (rows-at k j l b))
 
-    -- with three different or three equal entries in each row
-    pub rows-corners : (k : ℕ) → k < F → Corners (take (3 * F) rows) k
-    rows-corners k l = go (R .row k l)
-      where
-        go : RowOf F mate thirds k rows → Corners (take (3 * F) rows) k
-        go (hasRow H e) = different (record {
-          apart = λ i j a b s.
-              H .apart i j a b (sym (rows-at k i l a ∙ e i a) ∙ s ∙ rows-at k j l b ∙ e j b);
-        })
-        go (hasNone _ e) = equal (λ i j a b. rows-at k i l a ∙ e i a ∙ sym (e j b) ∙ sym (rows-at k j l b))
-
     -- and its entries are vertices of the mesh
     rows-below : (k i : ℕ) → k < F → i < 3 → at (take (3 * F) rows) (3 * k + i) < N
     rows-below k i l b = go (R .row k l)
       where
-        go : RowOf F mate thirds k rows → at (take (3 * F) rows) (3 * k + i) < N
+        go : RowOf F other thirds k rows → at (take (3 * F) rows) (3 * k + i) < N
         go (hasRow H e) =
             rw (rows-at k i l b, e i b)
             (on-vertex (D .proper) (ending-opposite k l i b (H .mated ((i + 2) % 3) (omega arith)) .hasW))
@@ -385,7 +386,7 @@ module _ {N F : ℕ} {T first mate thirds : List ℕ} (D : Tabled N F T first ma
     pub differ-tile : (k : ℕ) → k < F → at rows (3 * k) ≢ at rows (3 * k + 1) → IsTile T k
     differ-tile k l n = go (R .row k l)
       where
-        go : RowOf F mate thirds k rows → IsTile T k
+        go : RowOf F other thirds k rows → IsTile T k
         go (hasRow H e) = row-tile k l H
         go (hasNone _ e) =
             absurd (n (rw (add-zero (3 * k)) at (e 0 (omega arith) ∙ sym (e 1 (omega arith)))))
@@ -394,7 +395,7 @@ module _ {N F : ℕ} {T first mate thirds : List ℕ} (D : Tabled N F T first ma
     pub tile-differ : (k : ℕ) → k < F → IsTile T k → at rows (3 * k) ≢ at rows (3 * k + 1)
     tile-differ k l t s = go (R .row k l)
       where
-        go : RowOf F mate thirds k rows → ⊥
+        go : RowOf F other thirds k rows → ⊥
         go (hasRow H e) = omega (
           arith,
           H .apart 0 1 (omega arith) (omega arith)

@@ -38,11 +38,11 @@ tried-refuted (roleFound _) e = absurd (true≢false e)
 tried-refuted (roleNone refuted) _ = refuted
 
 -- where there is room, what one role is lent any other is lent
-lent-anew : {role role′ N F : ℕ} {T mate rows first link owners : List ℕ}
+lent-anew : {role role′ N F : ℕ} {T other rows ring : List ℕ}
     {marks coarse numbers map faces table marks′ coarse′ numbers′ map′ faces′ table′ : List ℕ}
-    → RoleLent role N F T mate rows first link owners marks coarse numbers map faces table → role′ ≤ 3
+    → RoleLent role N F T other rows ring marks coarse numbers map faces table → role′ ≤ 3
     → Rooms (N + 3 * F) marks′ coarse′ numbers′ map′ faces′ table′
-    → RoleLent role′ N F T mate rows first link owners marks′ coarse′ numbers′ map′ faces′ table′
+    → RoleLent role′ N F T other rows ring marks′ coarse′ numbers′ map′ faces′ table′
 lent-anew L l room = record {
   isRole = l;
   proper = L .proper;
@@ -50,20 +50,14 @@ lent-anew L l room = record {
   some = L .some;
   small = L .small;
   halves = L .halves;
-  firstT = L .firstT;
+  others = L .others;
   thirds = L .thirds;
-  firsts = L .firsts;
-  mated = L .mated;
   tabled = L .tabled;
   rowed = L .rowed;
-  rowFirsts = L .rowFirsts;
-  links = L .links;
-  owned = L .owned;
-  mateRoom = L .mateRoom;
+  ringed = L .ringed;
+  otherRoom = L .otherRoom;
   rowsRoom = L .rowsRoom;
-  firstRoom = L .firstRoom;
-  linkRoom = L .linkRoom;
-  ownersRoom = L .ownersRoom;
+  ringRoom = L .ringRoom;
   rooms = room;
 }
 
@@ -81,18 +75,18 @@ pub record SameLengths (marks₀ coarse₀ numbers₀ map₀ faces₀ table₀ m
 
 -- Before a turn: the next role is at most 4, no role below it has a reading, the roles are lent what they need, and
 -- the buffers have kept their lengths.
-pub record Turn (N F : ℕ) (T mate rows first link owners : List ℕ)
+pub record Turn (N F : ℕ) (T other rows ring : List ℕ)
     (marks₀ coarse₀ numbers₀ map₀ faces₀ table₀ marks coarse numbers map faces table : List ℕ) (role : ℕ)
     : Type 0 where
   pub isNext : role ≤ 4
   pub before : (earlier : ℕ) → earlier < role → ReadingIn Same N T earlier → ⊥
-  pub lent : RoleLent 0 N F T mate rows first link owners marks coarse numbers map faces table
+  pub lent : RoleLent 0 N F T other rows ring marks coarse numbers map faces table
   pub lengths : SameLengths marks₀ coarse₀ numbers₀ map₀ faces₀ table₀ marks coarse numbers map faces table
 
-module _ {N F : ℕ} {T mate rows first link owners marks₀ coarse₀ numbers₀ map₀ faces₀ table₀ : List ℕ} where
+module _ {N F : ℕ} {T other rows ring marks₀ coarse₀ numbers₀ map₀ faces₀ table₀ : List ℕ} where
   -- the first turn
-  pub begun : RoleLent 0 N F T mate rows first link owners marks₀ coarse₀ numbers₀ map₀ faces₀ table₀
-      → Turn N F T mate rows first link owners marks₀ coarse₀ numbers₀ map₀ faces₀ table₀
+  pub begun : RoleLent 0 N F T other rows ring marks₀ coarse₀ numbers₀ map₀ faces₀ table₀
+      → Turn N F T other rows ring marks₀ coarse₀ numbers₀ map₀ faces₀ table₀
       marks₀ coarse₀ numbers₀ map₀ faces₀ table₀ 0
   begun L = record {
     isNext = omega arith;
@@ -109,10 +103,10 @@ module _ {N F : ℕ} {T mate rows first link owners marks₀ coarse₀ numbers�
   }
 
   module _ {marks coarse numbers map faces table : List ℕ} {role : ℕ}
-      (I : Turn N F T mate rows first link owners marks₀ coarse₀ numbers₀ map₀ faces₀ table₀
+      (I : Turn N F T other rows ring marks₀ coarse₀ numbers₀ map₀ faces₀ table₀
       marks coarse numbers map faces table role) where
     -- what `try_role` requires
-    pub triable : role < 4 → RoleLent role N F T mate rows first link owners marks coarse numbers map faces table
+    pub triable : role < 4 → RoleLent role N F T other rows ring marks coarse numbers map faces table
     triable l = lent-anew (I .lent) (omega arith) (I .lent .rooms)
 
     -- lengths that are kept by a turn are kept from the start
@@ -139,7 +133,7 @@ module _ {N F : ℕ} {T mate rows first link owners marks₀ coarse₀ numbers�
     pub turned : {marks′ coarse′ numbers′ map′ faces′ table′ : List ℕ} {answer : Bool} {M n : ℕ} → role < 4
         → SameLengths marks coarse numbers map faces table marks′ coarse′ numbers′ map′ faces′ table′
         → TriedRole role N F T coarse′ map′ faces′ answer M n → answer ≡ false
-        → Turn N F T mate rows first link owners marks₀ coarse₀ numbers₀ map₀ faces₀ table₀
+        → Turn N F T other rows ring marks₀ coarse₀ numbers₀ map₀ faces₀ table₀
         marks′ coarse′ numbers′ map′ faces′ table′ (role + 1)
     turned l K t e = record {
       isNext = omega arith;
@@ -158,8 +152,10 @@ module _ {N F : ℕ} {T mate rows first link owners marks₀ coarse₀ numbers�
         found (record { has = returned-in (tried-returned t e); before = I .before }) (tried-returned t e)
 
     -- after the last turn no role has a reading
-    pub no-role : 4 ≤ role → {coarse′ map′ faces′ : List ℕ} {M n : ℕ} → LeastTried N F T coarse′ map′ faces′ 4 M n
-    no-role l = none (record { none = λ role′ R. I .before role′ (omega (arith, role-within (R .inRole))) R })
+    pub no-role : 4 ≤ role → {coarse′ map′ faces′ : List ℕ} {role′ M n : ℕ} → role′ ≡ 4
+        → LeastTried N F T coarse′ map′ faces′ role′ M n
+    no-role l e =
+        rw e (none (record { none = λ tried R. I .before tried (omega (arith, role-within (R .inRole))) R }))
 
 -- ---- the role that is asked for
 
@@ -169,11 +165,11 @@ pub asked-least : {asked N F : ℕ} {T coarse map faces : List ℕ} {role M n : 
 asked-least e (found L R) = rw e (chosenFound (least L) R)
 asked-least e (none L) = rw e (chosenNone (least L))
 
-module _ {asked N F : ℕ} {T mate rows first link owners marks coarse numbers map faces table : List ℕ}
-    (L : ChoiceLent asked N F T mate rows first link owners marks coarse numbers map faces table)
-    (other : asked ≢ 4) where
+module _ {asked N F : ℕ} {T other rows ring marks coarse numbers map faces table : List ℕ}
+    (L : ChoiceLent asked N F T other rows ring marks coarse numbers map faces table)
+    (differs : asked ≢ 4) where
   -- asked another number, it is one of the roles, so that it can be tried
-  pub asked-triable : RoleLent asked N F T mate rows first link owners marks coarse numbers map faces table
+  pub asked-triable : RoleLent asked N F T other rows ring marks coarse numbers map faces table
   asked-triable = lent-anew (L .lent) (omega (arith, L .known)) (L .lent .rooms)
 
   module _ {coarse′ map′ faces′ : List ℕ} {answer : Bool} {M n : ℕ}
@@ -183,5 +179,6 @@ module _ {asked N F : ℕ} {T mate rows first link owners marks coarse numbers m
     asked-found e = chosenFound (named (asked-triable .isRole) (returned-in (tried-returned t e))) (tried-returned t e)
 
     -- and else none is
-    pub asked-none : answer ≡ false → {M′ n′ : ℕ} → ChosenTried asked N F T coarse′ map′ faces′ 4 M′ n′
-    asked-none e = chosenNone (named (asked-triable .isRole) (tried-refuted t e))
+    pub asked-none : answer ≡ false → {role M′ n′ : ℕ} → role ≡ 4
+        → ChosenTried asked N F T coarse′ map′ faces′ role M′ n′
+    asked-none e f = rw f (chosenNone (named (asked-triable .isRole) (tried-refuted t e)))

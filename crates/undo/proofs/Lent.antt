@@ -30,7 +30,7 @@ passed-below keys table n inside once k l = go (injective-onto (at keys) n insid
     go : (t : ℕ) × (t < n) × (at keys t ≡ k) → at table k < n
     go (t, b, e) = omega (arith, ap (at table) (sym e) ∙ once t b)
 
-module _ {N F : ℕ} {T W : List ℕ} {s : ℕ} {first marks : List ℕ} (S : Searched N F T W s first marks) where
+module _ {N F : ℕ} {T W : List ℕ} {s : ℕ} {marks : List ℕ} (S : Searched N F T W s marks) where
   -- ---- the keys
 
   module _ {F′ : ℕ} {tile : List ℕ} (tiles : RanksOf F marks F′ tile) where
@@ -45,8 +45,8 @@ module _ {N F : ℕ} {T W : List ℕ} {s : ℕ} {first marks : List ℕ} (S : Se
         (S .proper .otherwise .below (3 * k + i) (omega (arith, S .whole, reach-inside S k q))))
 
     -- the claimed triangles are triangles of the mesh
-    pub claimed-below : {mate owners claimed : List ℕ} → Claimed F marks mate owners claimed
-        → AcrossOnly F T mate owners → (t : ℕ) → t < 4 * F′ → at claimed t < F
+    pub claimed-below : {other claimed : List ℕ} → Claimed F marks other claimed
+        → AcrossOnly F T other → (t : ℕ) → t < 4 * F′ → at claimed t < F
     claimed-below {claimed = claimed} claims across = by-four S tiles (λ (t : ℕ). at claimed t < F)
         (λ k q. rw (claimed-centre S tiles claims k q) (reach-inside S k q)) corner
       where

@@ -10,3 +10,4 @@ pub mod Complete
 pub mod Stages
 pub mod Tries
 pub mod Least
+pub mod Uneven

@@ -30,7 +30,7 @@ renamed-agree f g T same = ext-getD 0 (renamed f T) (renamed g T) (renamed-lengt
     entry : (c : ℕ) → c < length T → at (renamed f T) c ≡ at (renamed g T) c
     entry c l = renamed-at f T c l ∙ same c l ∙ sym (renamed-at g T c l)
 
-module _ {N F : ℕ} {T W : List ℕ} {s : ℕ} {first marks : List ℕ} (S : Searched N F T W s first marks)
+module _ {N F : ℕ} {T W : List ℕ} {s : ℕ} {marks : List ℕ} (S : Searched N F T W s marks)
     {M F′ : ℕ} {K rank tile C : List ℕ} (B : Tables N F W marks M F′ K rank tile C) where
   -- ---- the vertex map
 
@@ -53,8 +53,8 @@ module _ {N F : ℕ} {T W : List ℕ} {s : ℕ} {first marks : List ℕ} (S : Se
 
   -- ---- the triangle map
 
-  module _ (tm : List ℕ) {mate owners claimed : List ℕ} (quarter : F ≡ 4 * F′)
-      (claims : Claimed F marks mate owners claimed) (passed : Held (λ t. t) F claimed tm) where
+  module _ (tm : List ℕ) {other claimed : List ℕ} (quarter : F ≡ 4 * F′)
+      (claims : Claimed F marks other claimed) (passed : Held (λ t. t) F claimed tm) where
     -- where the map passes, each tile stands at the centre of its coarse triangle
     pub found-centres : (k : ℕ) → Reach W s k → at tm k ≡ 4 * at tile k
     found-centres k q =
@@ -62,7 +62,7 @@ module _ {N F : ℕ} {T W : List ℕ} {s : ℕ} {first marks : List ℕ} (S : Se
         ∙ passed (4 * at tile k) (omega (arith, tile-below S (B .tiles) k q))
 
     -- and the triangle over the side that ends at its corner i at corner i
-    pub found-corners : AcrossOnly F T mate owners → (k i l : ℕ) → Reach W s k → i < 3 → l ≢ k
+    pub found-corners : AcrossOnly F T other → (k i l : ℕ) → Reach W s k → i < 3 → l ≢ k
         → HasEdge T l (at T (3 * k + (i + 2) % 3)) (at T (3 * k + i)) → at tm l ≡ 4 * at tile k + suc i
     found-corners across k i l q b n h =
         ap (at tm) (across .only k i l (reach-inside S k q) (reach-tile S k q) b n h

@@ -10,7 +10,7 @@ use mathlib.Core.List.{List}
 use lib.ListN.{length, take}
 use Rattle.theory.specs.Counting.{count}
 use Rattle.theory.specs.Mesh.{at, triangles, Same}
-use Rattle.theory.specs.Splitting.{edges, edgeNo}
+use Rattle.theory.specs.Splitting.{firstOn, edges, edgeNo}
 use Rattle.theory.specs.Reading.{Reading, ReadingIn, Returned}
 use Rattle.theory.proofs.Canonical.{returned-exists}
 use Rattle.theory.proofs.Finite.{tabulate, tabulate-at}
@@ -19,8 +19,8 @@ use Rattle.theory.proofs.Tiles.{Start, Covering, start-exists, start-centre, ce
 use Rattle.lists.specs.Marks.{marked, RanksOf}
 use Rattle.lists.specs.Tables.{Tabulated}
 use Rattle.lists.proofs.Lists.{at-take}
-use Rattle.mesh.proofs.Firsts.{first-le, first-own}
-use Rattle.split.proofs.Numbering.{numbered-edgeNo, numbered-edges}
+use Rattle.rings.specs.Ring.{RingBy}
+use Rattle.rings.proofs.Facts.{ring-below}
 use Rattle.tiles.specs.Starts.{startOf}
 use Rattle.tiles.specs.Selected.{Selected}
 use Rattle.stages.specs.Role.{FindLent, Gathered, TilesFound, nowhere, uneven, quarter}
@@ -35,7 +35,7 @@ use Rattle.undo.proofs.Complete.{returned-once, returned-tested, scatte
 use Rattle.undo.proofs.Covers.{Tabled, covering, tile-row, tile-beside}
 use Rattle.undo.proofs.Lent.{rows-below, claimed-below, passed-below, splitting-different}
 use Rattle.undo.proofs.Sound.{tables-found}
-use Rattle.undo.proofs.Stages.{stage-tables, stage-firsts, stage-ordered}
+use Rattle.undo.proofs.Stages.{stage-tables, stage-rings}
 
 -- ---- what a role comes to
 
@@ -66,9 +66,9 @@ rooms-kept R a b c d e f = record {
 
 -- The n tiles of a role are found: they are reached from its start s, their rows are selected, and they are a quarter
 -- of the triangles.
-pub record Picked (role N F n : ℕ) (T rows first marks kept : List ℕ) : Type 0 where
+pub record Picked (role N F n : ℕ) (T rows marks kept : List ℕ) : Type 0 where
   pub start : ℕ
-  pub searched : Searched N F T (take (3 * F) rows) start first marks
+  pub searched : Searched N F T (take (3 * F) rows) start marks
   pub begins : Start T role start
   pub selected : Selected F (take (3 * F) rows) marks n kept
   pub quarter : F ≡ 4 * n
@@ -91,15 +91,14 @@ added-within : {N M E answer : ℕ} → AddedUp N M E answer → answer ≤ N �
 added-within (even e) l = (refl, e)
 added-within (odd n) l = absurd (omega arith)
 
-module _ {role N F : ℕ} {T mate rows first link owners marks₀ coarse₀ numbers₀ map₀ faces₀ table₀ : List ℕ}
-    (L : RoleLent role N F T mate rows first link owners marks₀ coarse₀ numbers₀ map₀ faces₀ table₀) where
+module _ {role N F : ℕ} {T other rows ring marks₀ coarse₀ numbers₀ map₀ faces₀ table₀ : List ℕ}
+    (L : RoleLent role N F T other rows ring marks₀ coarse₀ numbers₀ map₀ faces₀ table₀) where
   -- the tables of the mesh
-  tabled : Tabled N F T (L .firstT) mate (L .thirds)
+  tabled : Tabled N F T other (L .thirds)
   tabled = record {
     proper = L .proper .otherwise;
     whole = L .whole;
-    firsts = L .firsts;
-    mated = L .mated;
+    others = L .others;
     tabled = L .tabled;
   }
 
@@ -107,21 +106,17 @@ module _ {role N F : ℕ} {T mate rows first link owners marks₀ coarse₀ numb
   cover : Covering T (take (3 * F) rows)
   cover = covering tabled rows (L .rowsRoom) (L .rowed)
 
-  -- the triangles over the sides of the tiles are those of the mates
-  across : AcrossOnly F T mate owners
-  across = record { only = λ k i l b t c n h. tile-beside tabled k b (L .owned) t i c .only l n h }
+  -- the triangles over the sides of the tiles are those of the other half-edges
+  across : AcrossOnly F T other
+  across = record { only = λ k i l b t c n h. tile-beside tabled k b t i c .only l n h }
 
   -- there is a triangle
   some : 0 < triangles T
   some = omega (arith, L .whole, L .some)
 
   -- where the search begins
-  begun : Begun T F role (startOf role F mate owners rows)
-  begun = start-begun tabled (L .some) (L .owned) (L .rowsRoom) (L .rowed) role (L .isRole)
-
-  -- no half-edge of an edge stands before its first one
-  first-within : (h : ℕ) → h < 3 * F → at first h ≤ h
-  first-within = first-le (take (3 * F) rows) (L .rowFirsts)
+  begun : Begun T F role (startOf role F other rows)
+  begun = start-begun tabled (L .some) (L .rowsRoom) (L .rowed) role (L .isRole)
 
   -- the returned reading, if there is one in the role
   returned : ReadingIn Same N T role → (r : Reading) × Returned Same N T role r
@@ -139,61 +134,56 @@ module _ {role N F : ℕ} {T mate rows first link owners marks₀ coarse₀ numb
           (start-centre N T (L .proper) (take (3 * F) rows) cover r (R .is) role s some (R .inRole) q))
 
   -- what `find_tiles` requires
-  pub findable : FindLent F mate rows first link owners marks₀ faces₀ map₀ table₀
+  pub findable : FindLent F other rows ring marks₀ faces₀ map₀ table₀
   findable = record {
     some = L .some;
     small = L .halves;
-    mateRoom = L .mateRoom;
+    otherRoom = L .otherRoom;
     rowsRoom = L .rowsRoom;
-    firstRoom = L .firstRoom;
-    linkRoom = L .linkRoom;
-    ownersRoom = L .ownersRoom;
+    ringRoom = L .ringRoom;
     marksRoom = omega (arith, L .rooms .marksRoom);
     keptRoom = omega (arith, L .rooms .facesRoom);
-    queueRoom = omega (arith, L .rooms .mapRoom);
+    queueRoom = omega (arith, L .some, L .rooms .mapRoom);
     openedRoom = omega (arith, L .rooms .tableRoom);
-    firstWithin = first-within;
-    firstOwn = first-own (take (3 * F) rows) (L .rowFirsts);
-    links = L .links;
-    owned = L .owned;
+    key = firstOn (take (3 * F) rows);
+    ringed = L .ringed;
   }
 
   module _ {marks′ kept : List ℕ} where
     -- what is gathered from where the search begins is what the search finds
-    gathered-searched : {s n : ℕ} → Begun T F role s → Gathered s F rows first marks′ kept n
-        → Searched N F T (take (3 * F) rows) s first marks′ × Start T role s
+    gathered-searched : {s n : ℕ} → Begun T F role s → Gathered s F rows ring marks′ kept n
+        → Searched N F T (take (3 * F) rows) s marks′ × Start T role s
     gathered-searched (starts l q t) G = (
       record {
         proper = L .proper;
         whole = L .whole;
         cover = cover;
-        firsts = L .rowFirsts;
         inside = l;
         starts = t;
-        reached = G .reached;
+        reached = G .reached .marked (firstOn (take (3 * F) rows)) (L .ringed);
       },
       q,
     )
     gathered-searched (begunNowhere _) G = absurd (omega (arith, G .inside))
 
     -- where the tiles are no quarter, there is no reading
-    unquartered : {s n : ℕ} → Begun T F role s → Gathered s F rows first marks′ kept n → 4 * n ≢ F
+    unquartered : {s n : ℕ} → Begun T F role s → Gathered s F rows ring marks′ kept n → 4 * n ≢ F
         → (r : Reading) × Returned Same N T role r → ⊥
     unquartered {s} B G n (r, R) = go (gathered-searched B G)
       where
-        go : Searched N F T (take (3 * F) rows) s first marks′ × Start T role s → ⊥
+        go : Searched N F T (take (3 * F) rows) s marks′ × Start T role s → ⊥
         go (S, q) = omega (arith, n, G .selected .all, returned-quarter S R q)
 
     -- so where `find_tiles` answers 0, there is no reading
-    pub unfound : {n : ℕ} → TilesFound (startOf role F mate owners rows) F rows first marks′ kept n → n ≡ 0
+    pub unfound : {n : ℕ} → TilesFound (startOf role F other rows) F rows ring marks′ kept n → n ≡ 0
         → ReadingIn Same N T role → ⊥
     unfound (nowhere e) _ R = unbegun begun e (returned R)
     unfound (uneven G q) _ R = unquartered begun G q (returned R)
     unfound (quarter _ _ l) e R = omega arith
 
     -- and else the tiles are found
-    pub picked : {n : ℕ} → TilesFound (startOf role F mate owners rows) F rows first marks′ kept n → n ≢ 0
-        → Picked role N F n T rows first marks′ kept
+    pub picked : {n : ℕ} → TilesFound (startOf role F other rows) F rows ring marks′ kept n → n ≢ 0
+        → Picked role N F n T rows marks′ kept
     picked (nowhere _) n = absurd (n refl)
     picked (uneven _ _) n = absurd (n refl)
     picked (quarter G q _) _ = record {
@@ -206,7 +196,7 @@ module _ {role N F : ℕ} {T mate rows first link owners marks₀ coarse₀ numb
 
   -- ---- the coarse mesh
 
-  module _ {n : ℕ} {marks kept : List ℕ} (P : Picked role N F n T rows first marks kept) where
+  module _ {n : ℕ} {marks kept : List ℕ} (P : Picked role N F n T rows marks kept) where
     -- the marked triangles have ranks
     ranked : RanksOf F marks n (tabulate (count (marked marks)) F)
     ranked = record { entry = tabulate-at (count (marked marks)) F; all = P .selected .all }
@@ -217,24 +207,22 @@ module _ {role N F : ℕ} {T mate rows first link owners marks₀ coarse₀ numb
 
     module _ {coarse numbers map table : List ℕ} (room : Rooms (N + 3 * F) marks coarse numbers map kept table) where
       -- what `number_tiles` requires
-      pub numberable : NumberTilesLent N F n first owners marks kept coarse numbers map table
+      pub numberable : NumberTilesLent N F n ring marks kept coarse numbers map table
       numberable = record {
         quarter = P .quarter;
         small = L .small;
         halves = L .halves;
-        firstRoom = L .firstRoom;
-        ownersRoom = L .ownersRoom;
+        ringRoom = L .ringRoom;
         marksRoom = omega (arith, room .marksRoom);
         keptRoom = omega (arith, P .quarter, room .facesRoom);
         coarseRoom = omega (arith, P .quarter, room .coarseRoom);
         numbersRoom = omega (arith, P .quarter, room .numbersRoom);
         rankRoom = omega (arith, room .mapRoom);
         tableRoom = room .tableRoom;
-        firstWithin = first-within;
-        owned = L .owned;
+        within = ring-below (L .ringed);
         total = P .selected .all;
         below = kept-below;
-        ordered = λ M out firstC B. stage-ordered B (P .selected) (P .searched) (L .owned);
+        ringed = λ M out ringC B. stage-rings B (P .selected) (P .searched) (L .ringed);
       }
 
       -- what `map_vertices` requires
@@ -256,38 +244,38 @@ module _ {role N F : ℕ} {T mate rows first link owners marks₀ coarse₀ numb
       }
 
       -- what `map_triangles` requires
-      pub claimable : TrianglesLent F mate owners marks kept table
+      pub claimable : TrianglesLent F other marks kept table
       claimable = record {
         claims = record {
           small = L .halves;
           marksRoom = omega (arith, room .marksRoom);
-          mateRoom = L .mateRoom;
-          ownerRoom = L .ownersRoom;
+          otherRoom = L .otherRoom;
           outRoom = omega (arith, room .tableRoom);
           quarter = omega (arith, P .quarter, P .selected .all);
-          mated = λ k i b m. tile-row tabled k b
-              (reach-tile (P .searched) k (marked-reach (P .searched) k b m)) .mated i;
         };
-        owned = λ h b. omega (arith, L .owned .entry h b);
+        mated = λ k i b m. tile-row tabled k b
+            (reach-tile (P .searched) k (marked-reach (P .searched) k b m)) .mated i;
         mapRoom = omega (arith, room .facesRoom);
       }
 
     module _ {coarse numbers : List ℕ} {answer : ℕ}
-        (Z : CoarseNumbered N F n first owners marks kept coarse numbers answer) where
+        (Z : CoarseNumbered N F n ring marks kept coarse numbers answer) where
       -- the tables of the coarse mesh
       coarsened : Tables N F (take (3 * F) rows) marks (Z .vertices) n kept (Z .tables .rank) (Z .tables .tile)
           (take (3 * n) coarse)
       coarsened = stage-tables (Z .tables) (P .selected)
 
-      -- the numbers are those of its edges
+      -- its rings are those of its edges
+      coarse-rings : RingBy (3 * n) (firstOn (take (3 * n) coarse)) (Z .ringC)
+      coarse-rings = stage-rings (Z .tables) (P .selected) (P .searched) (L .ringed)
+
+      -- so the numbers are those of its edges
       numbered : Tabulated (edgeNo (Z .vertices) (take (3 * n) coarse)) (3 * n) numbers
-      numbered = numbered-edgeNo (take (3 * n) coarse) (coarsened .whole)
-          (stage-firsts (Z .tables) (P .selected) (P .searched) (L .owned)) (Z .numbered)
+      numbered = Z .numbered .number (take (3 * n) coarse) (coarsened .whole) coarse-rings
 
       -- and they are as many
       edges-counted : Z .edges ≡ edges (take (3 * n) coarse)
-      edges-counted = numbered-edges (take (3 * n) coarse) (coarsened .whole)
-          (stage-firsts (Z .tables) (P .selected) (P .searched) (L .owned)) (Z .numbered)
+      edges-counted = Z .numbered .total (take (3 * n) coarse) (coarsened .whole) coarse-rings
 
       -- where vertices and edges do not add up, there is no reading
       pub uncounted : N < answer → ReadingIn Same N T role → ⊥
@@ -334,7 +322,7 @@ module _ {role N F : ℕ} {T mate rows first link owners marks₀ coarse₀ numb
             go (r, R) = test-failed e (X .complete (map-coarse R) (map-numbers R))
 
         module _ {faces₁ faces claimed : List ℕ} {answerT : Bool}
-            (Y : TrianglesMapped F mate owners marks faces₁ faces claimed answerT) where
+            (Y : TrianglesMapped F other marks faces₁ faces claimed answerT) where
           -- the triangle map of the returned reading holds each triangle of the splitting, so the map does
           faces-once : {r : Reading} → Returned Same N T role r → Held (λ t. t) F claimed faces
           faces-once {r} R = scattered-hits (r .triangleMap) (Y .scattered)
@@ -352,8 +340,7 @@ module _ {role N F : ℕ} {T mate rows first link owners marks₀ coarse₀ numb
           sources = record {
             selected = X .selected;
             numbered = numbered;
-            mate = mate;
-            owners = owners;
+            other = other;
             claims = Y .claims;
             across = across;
           }

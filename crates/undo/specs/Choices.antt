@@ -8,10 +8,10 @@ use Rattle.theory.specs.Choice.{Chosen, NoneChosen}
 use Rattle.undo.specs.Tried.{RoleLent}
 
 -- What `chosen_role` is lent: a number asked, and what role 0 is lent. The other roles are lent the same.
-pub record ChoiceLent (asked N F : ℕ) (T mate rows first link owners marks coarse numbers map faces table : List ℕ)
+pub record ChoiceLent (asked N F : ℕ) (T other rows ring marks coarse numbers map faces table : List ℕ)
     : Type 0 where
   pub known : asked ≤ 4
-  pub lent : RoleLent 0 N F T mate rows first link owners marks coarse numbers map faces table
+  pub lent : RoleLent 0 N F T other rows ring marks coarse numbers map faces table
 
 -- The role is the chosen one, and the returned reading, with M vertices and n triangles, stands in the buffers; or the
 -- role is 4, and none is chosen.

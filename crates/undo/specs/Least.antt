@@ -8,9 +8,9 @@ use Rattle.theory.specs.Choice.{LeastRole, NoRole}
 use Rattle.undo.specs.Tried.{RoleLent}
 
 -- What `least_role` is lent: what role 0 is lent. The other roles are lent the same.
-pub record RolesLent (N F : ℕ) (T mate rows first link owners marks coarse numbers map faces table : List ℕ)
+pub record RolesLent (N F : ℕ) (T other rows ring marks coarse numbers map faces table : List ℕ)
     : Type 0 where
-  pub lent : RoleLent 0 N F T mate rows first link owners marks coarse numbers map faces table
+  pub lent : RoleLent 0 N F T other rows ring marks coarse numbers map faces table
 
 -- The role is the least that has a reading, and the returned one, with M vertices and n triangles, stands in the
 -- buffers; or the role is 4, and no role has a reading.

@@ -1,16 +1,17 @@
 -- A role that is tried, by the tables: what it is lent, and whether the mesh has a reading in it.
-use Prim.Native.Nat.{ℕ, suc, _+_, _*_, _≤_, _<_}
+use Prim.Native.Nat.{ℕ, _+_, _*_, _≤_, _<_}
 use mathlib.Core.Path.{_≡_}
 use mathlib.Core.Bool.{Bool, true, false}
 use mathlib.Core.List.{List}
 use lib.ListN.{length, take}
-use Rattle.theory.specs.Mesh.{at, Same, Proper}
+use Rattle.theory.specs.Mesh.{Same, Proper}
 use Rattle.theory.specs.Splitting.{firstOn}
 use Rattle.theory.specs.Reading.{ReadingIn, Returned}
-use Rattle.lists.specs.Chains.{Nearest}
 use Rattle.lists.specs.Tables.{Tabulated}
-use Rattle.mesh.specs.Tables.{third, owner}
-use Rattle.tiles.specs.Tiles.{Mated, RowsOf}
+use Rattle.rings.specs.Tables.{third}
+use Rattle.rings.specs.Ring.{RingBy}
+use Rattle.rings.specs.Others.{Othered}
+use Rattle.tiles.specs.Tiles.{RowsOf}
 
 -- Room in each of the buffers.
 pub record Rooms (size : ℕ) (marks coarse numbers map faces table : List ℕ) : Type 0 where
@@ -21,31 +22,24 @@ pub record Rooms (size : ℕ) (marks coarse numbers map faces table : List ℕ) 
   pub facesRoom : size ≤ length faces
   pub tableRoom : size ≤ length table
 
--- What `try_role` is lent: a proper mesh of F triangles, the mate of each half-edge, the rows of the covering mesh
--- with their edge table, the triangle of each half-edge, and room. The mates and the rows were made from the first
--- half-edges and the third vertices of the mesh.
-pub record RoleLent (role N F : ℕ) (T mate rows first link owners marks coarse numbers map faces table : List ℕ)
-    : Type 0 where
+-- What `try_role` is lent: a proper mesh of F triangles, the other half-edge of each half-edge, the rows of the covering
+-- mesh with the rings of their edges, and room. The rows were made from the other half-edges and the third vertices of
+-- the mesh.
+pub record RoleLent (role N F : ℕ) (T other rows ring marks coarse numbers map faces table : List ℕ) : Type 0 where
   pub isRole : role ≤ 3
   pub proper : Proper N T
   pub whole : length T ≡ 3 * F
   pub some : 0 < F
   pub small : N + F < 65536
   pub halves : 3 * F < 65536
-  pub firstT : List ℕ
+  pub others : Othered (3 * F) (firstOn T) other
   pub thirds : List ℕ
-  pub firsts : Tabulated (firstOn T) (3 * F) firstT
-  pub mated : Mated (3 * F) firstT mate
   pub tabled : Tabulated (third T) (3 * F) thirds
-  pub rowed : RowsOf F mate thirds rows
-  pub rowFirsts : Tabulated (firstOn (take (3 * F) rows)) (3 * F) first
-  pub links : (h : ℕ) → h < 3 * F → Nearest first (at first h) (suc h) (3 * F) (at link h)
-  pub owned : Tabulated owner (3 * F) owners
-  pub mateRoom : 3 * F ≤ length mate
+  pub rowed : RowsOf F other thirds rows
+  pub ringed : RingBy (3 * F) (firstOn (take (3 * F) rows)) ring
+  pub otherRoom : 3 * F ≤ length other
   pub rowsRoom : 3 * F ≤ length rows
-  pub firstRoom : 3 * F ≤ length first
-  pub linkRoom : 3 * F ≤ length link
-  pub ownersRoom : 3 * F ≤ length owners
+  pub ringRoom : 3 * F ≤ length ring
   pub rooms : Rooms (N + 3 * F) marks coarse numbers map faces table
 
 -- The mesh has a reading in the role, and the returned one, with M vertices and n triangles, stands in the buffers; or

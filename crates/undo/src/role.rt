@@ -1,4 +1,4 @@
-// One role, tried by its stages. The covering mesh and its edge table are made once for all roles; the other buffers
+// One role, tried by its stages. The covering mesh and its rings are made once for all roles; the other buffers
 // are used anew by each.
 use stages::compare_all;
 use stages::find_tiles;
@@ -23,11 +23,9 @@ pub fn try_role(
     vertices: usize,
     triangles: usize,
     list: &[u16],
-    mate: &[u16],
+    other: &[u16],
     rows: &[u16],
-    first: &[u16],
-    link: &[u16],
-    owner: &[u16],
+    ring: &[u16],
     marks: &mut [u16],
     coarse: &mut [u16],
     numbers: &mut [u16],
@@ -35,24 +33,12 @@ pub fn try_role(
     faces: &mut [u16],
     table: &mut [u16],
 ) -> Tried
-    requires { ⌜ RoleLent role vertices triangles (now list) (now mate) (now rows) (now first) (now link) (now owner)
+    requires { ⌜ RoleLent role vertices triangles (now list) (now other) (now rows) (now ring)
         (now marks) (now coarse) (now numbers) (now map) (now faces) (now table) ⌝ }
     ensures { λ r. ⌜ TriedRole role vertices triangles (now (list .entry)) (now (coarse .exit)) (now (map .exit))
         (now (faces .exit)) (r .found) (r .vertices) (r .triangles) ⌝ }
 {
-    let count = find_tiles(
-        role,
-        triangles,
-        mate,
-        rows,
-        first,
-        link,
-        owner,
-        marks,
-        faces,
-        map,
-        table,
-    );
+    let count = find_tiles(role, triangles, other, rows, ring, marks, faces, map, table);
     if count == 0 {
         return untried();
     }
@@ -60,8 +46,7 @@ pub fn try_role(
         vertices,
         triangles,
         count,
-        first,
-        owner,
+        ring,
         marks,
         faces,
         coarse,
@@ -85,7 +70,7 @@ pub fn try_role(
     ) {
         return untried();
     }
-    if !map_triangles(triangles, mate, owner, marks, faces, table) {
+    if !map_triangles(triangles, other, marks, faces, table) {
         return untried();
     }
     if !compare_all(triangles, count, list, coarse, numbers, map, faces, table) {

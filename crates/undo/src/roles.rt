@@ -1,5 +1,6 @@
 // The least role that has a reading, and the role that is asked for.
 use super::role::try_role;
+ghost use mathlib.Core.Path.{_≡_};
 ghost use Rattle.undo.specs.Least.{RolesLent, LeastTried};
 ghost use Rattle.undo.specs.Choices.{ChoiceLent, ChosenTried};
 
@@ -15,11 +16,9 @@ pub fn least_role(
     vertices: usize,
     triangles: usize,
     list: &[u16],
-    mate: &[u16],
+    other: &[u16],
     rows: &[u16],
-    first: &[u16],
-    link: &[u16],
-    owner: &[u16],
+    ring: &[u16],
     marks: &mut [u16],
     coarse: &mut [u16],
     numbers: &mut [u16],
@@ -27,7 +26,7 @@ pub fn least_role(
     faces: &mut [u16],
     table: &mut [u16],
 ) -> Least
-    requires { ⌜ RolesLent vertices triangles (now list) (now mate) (now rows) (now first) (now link) (now owner)
+    requires { ⌜ RolesLent vertices triangles (now list) (now other) (now rows) (now ring)
         (now marks) (now coarse) (now numbers) (now map) (now faces) (now table) ⌝ }
     ensures { λ r. ⌜ LeastTried vertices triangles (now (list .entry)) (now (coarse .exit)) (now (map .exit))
         (now (faces .exit)) (r .role) (r .vertices) (r .triangles) ⌝ }
@@ -39,11 +38,9 @@ pub fn least_role(
             vertices,
             triangles,
             list,
-            mate,
+            other,
             rows,
-            first,
-            link,
-            owner,
+            ring,
             marks,
             coarse,
             numbers,
@@ -60,6 +57,13 @@ pub fn least_role(
         }
         role += 1;
     }
+    no_role()
+}
+
+// No role has a reading.
+pub fn no_role() -> Least
+    ensures { λ r. ⌜ r .role ≡ 4 ⌝ }
+{
     Least {
         role: 4,
         vertices: 0,
@@ -74,11 +78,9 @@ pub fn chosen_role(
     vertices: usize,
     triangles: usize,
     list: &[u16],
-    mate: &[u16],
+    other: &[u16],
     rows: &[u16],
-    first: &[u16],
-    link: &[u16],
-    owner: &[u16],
+    ring: &[u16],
     marks: &mut [u16],
     coarse: &mut [u16],
     numbers: &mut [u16],
@@ -86,8 +88,8 @@ pub fn chosen_role(
     faces: &mut [u16],
     table: &mut [u16],
 ) -> Least
-    requires { ⌜ ChoiceLent asked vertices triangles (now list) (now mate) (now rows) (now first) (now link)
-        (now owner) (now marks) (now coarse) (now numbers) (now map) (now faces) (now table) ⌝ }
+    requires { ⌜ ChoiceLent asked vertices triangles (now list) (now other) (now rows) (now ring)
+        (now marks) (now coarse) (now numbers) (now map) (now faces) (now table) ⌝ }
     ensures { λ r. ⌜ ChosenTried asked vertices triangles (now (list .entry)) (now (coarse .exit)) (now (map .exit))
         (now (faces .exit)) (r .role) (r .vertices) (r .triangles) ⌝ }
 {
@@ -96,11 +98,9 @@ pub fn chosen_role(
             vertices,
             triangles,
             list,
-            mate,
+            other,
             rows,
-            first,
-            link,
-            owner,
+            ring,
             marks,
             coarse,
             numbers,
@@ -114,11 +114,9 @@ pub fn chosen_role(
         vertices,
         triangles,
         list,
-        mate,
+        other,
         rows,
-        first,
-        link,
-        owner,
+        ring,
         marks,
         coarse,
         numbers,
@@ -133,9 +131,5 @@ pub fn chosen_role(
             triangles: tried.triangles,
         };
     }
-    Least {
-        role: 4,
-        vertices: 0,
-        triangles: 0,
-    }
+    no_role()
 }

@@ -23,8 +23,6 @@ pub fn split(vertices: u64, list: &[u16], out: &mut [u16]) -> Answer {
         first(&mut [0; WORK], need),
         first(&mut [0; WORK], need),
         first(&mut [0; WORK], need),
-        first(&mut [0; WORK], need),
-        first(&mut [0; WORK], need),
     )
 }
 
@@ -54,8 +52,6 @@ pub fn undo_one(
         first(&mut [0; WORK], need),
         first(&mut [0; WORK], need),
         first(&mut [0; WORK], need),
-        first(&mut [0; WORK], need),
-        first(&mut [0; WORK], need),
     )
 }
 
@@ -67,8 +63,6 @@ pub fn undo_several(vertices: u64, list: &[u16], asked: u64, out: &mut [u16]) ->
         list,
         asked,
         out,
-        first(&mut [0; WORK], need),
-        first(&mut [0; WORK], need),
         first(&mut [0; WORK], need),
         first(&mut [0; WORK], need),
         first(&mut [0; WORK], need),

@@ -62,8 +62,8 @@ fn triangles() {
 
 #[test]
 fn a_room_is_never_larger_than_the_largest_mesh_needs() {
-    assert_eq!(size(&Room::with_capacity_for(usize::MAX, usize::MAX)), "Room { entries: 983028 }");
-    assert_eq!(size(&Room::with_capacity_for(3, 1)), "Room { entries: 72 }");
+    assert_eq!(size(&Room::with_capacity_for(usize::MAX, usize::MAX)), "Room { entries: 819190 }");
+    assert_eq!(size(&Room::with_capacity_for(3, 1)), "Room { entries: 60 }");
 }
 
 #[test]

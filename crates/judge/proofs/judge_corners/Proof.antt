@@ -8,7 +8,7 @@ use Rattle.theory.specs.Mesh.{On}
 use Rattle.theory.specs.Refusals.{CornerNotBelow, EqualCorners}
 use Rattle.lists.specs.Places.{Place}
 use Rattle.limits.proofs.Judgement.{Nowhere, judged-none, judged-later}
-use Rattle.mesh.specs.Faults.{Whole}
+use Rattle.faults.specs.Faults.{Whole}
 use Rattle.judge.proofs.Places.{judged-found, placeless-nowhere}
 use Rattle.judge.proofs.judge_corners.Statement.{statement}
 use Rattle.judge.proofs.judge_corners.Tie as tie

@@ -1,24 +1,27 @@
--- `judge::judge_triangles` meets its contract: corners that passed 6 and 7 have an edge table, by which 8 is
+-- `judge::judge_triangles` meets its contract: corners that passed 6 and 7 have rings of edges, by which 8 is
 -- searched, and each search gives the least place of its row, or says that there is none.
 use native.Mathlib.Omega.{arith}
-use Prim.Native.Nat.{ℕ, _≤_, _<_}
+use Prim.Native.Nat.{ℕ, _*_, _≤_, _<_}
 use mathlib.Core.Path.{_≡_}
 use mathlib.Core.List.{List}
 use lib.ListN.{length}
 use borrow.Author.Needs.{needs}
+use Rattle.theory.specs.Splitting.{firstOn}
 use Rattle.theory.specs.Refusals.{SameAsEarlier, InNoTriangle, Passed}
 use Rattle.theory.proofs.Refusals.{corners-below, corners-different}
 use Rattle.lists.specs.Places.{Place}
 use Rattle.limits.proofs.Judgement.{Nowhere, judged-none, judged-later}
-use Rattle.mesh.specs.Tables.{Listed, EdgesLent, EdgeTable}
-use Rattle.mesh.specs.Faults.{SameLent}
+use Rattle.rings.specs.Ring.{RingBy}
+use Rattle.rings.specs.Tables.{Listed}
+use Rattle.rings.specs.Making.{RingLent}
+use Rattle.faults.specs.Faults.{SameLent, UsedLent}
 use Rattle.judge.specs.Judging.{TrianglesLent, TrianglesJudged}
 use Rattle.judge.proofs.Places.{judged-found, placeless-nowhere}
 use Rattle.judge.proofs.judge_triangles.Statement.{statement}
 use Rattle.judge.proofs.judge_triangles.Tie as tie
 
-module _ {N F : ℕ} {T head link first work1 work2 work3 work4 : List ℕ}
-    (L : TrianglesLent N F T head link first work1 work2 work3 work4) where
+module _ {N F : ℕ} {T ring work1 work2 work3 work4 : List ℕ}
+    (L : TrianglesLent N F T ring work1 work2 work3 work4) where
   -- corners that passed 6 are below N
   listed : Listed N F T
   unfolding Passed
@@ -29,97 +32,93 @@ module _ {N F : ℕ} {T head link first work1 work2 work3 work4 : List ℕ}
         below = corners-below N T (L .corners .0);
       }
 
-  -- what `edge_table` requires
-  edgeable : EdgesLent N F T work1 work2 head link work3 first
-  edgeable =
+  -- what `ring_table` requires
+  joinable : RingLent N F T work1 work2 work3 work4 ring
+  joinable =
       record {
         listed = listed;
-        lesserRoom = L .lent .work1Room;
-        greaterRoom = L .lent .work2Room;
-        headRoom = L .lent .headRoom;
-        linkRoom = L .lent .linkRoom;
-        seenRoom = L .lent .work3Room;
-        firstRoom = L .lent .firstRoom;
+        bound = L .lent .bound;
+        greaterRoom = L .lent .work1Room;
+        headRoom = L .lent .work2Room;
+        stampRoom = L .lent .work3Room;
+        lastRoom = L .lent .work4Room;
+        ringRoom = L .lent .ringRoom;
       }
 
-  -- what `same_as_earlier` requires, once the table is made, since every slice keeps its length
-  searchable : {work1′ work2′ head′ link′ work3′ first′ : List ℕ} → length work1′ ≡ length work1
-      → length work2′ ≡ length work2 → length head′ ≡ length head → length link′ ≡ length link
-      → length work3′ ≡ length work3 → length first′ ≡ length first → EdgeTable F T head′ link′ first′
-      → SameLent N F T head′ link′ first′ work1′ work2′ work3′
+  -- what `same_as_earlier` requires, once the rings are made, since every slice keeps its length
+  searchable : {work1′ work2′ ring′ : List ℕ} → length work1′ ≡ length work1 → length work2′ ≡ length work2
+      → length ring′ ≡ length ring → RingBy (3 * F) (firstOn T) ring′ → SameLent N F T ring′ work1′ work2′
   unfolding Passed
-  searchable a b c d e f table =
+  searchable a b c ringed =
       record {
         listed = listed;
         different = corners-different N T (L .corners .1 .0);
-        table = table;
-        headRoom = record { room = omega (arith, L .lent .headRoom) };
-        linkRoom = record { room = omega (arith, L .lent .linkRoom) };
-        firstRoom = record { room = omega (arith, L .lent .firstRoom) };
-        seenRoom = record { room = omega (arith, L .lent .work1Room) };
-        thirdsRoom = record { room = omega (arith, L .lent .work2Room) };
-        twinsRoom = record { room = omega (arith, L .lent .work3Room) };
+        ringed = ringed;
+        ringRoom = record { room = omega (arith, L .lent .ringRoom) };
+        thirdsRoom = record { room = omega (arith, L .lent .work1Room) };
+        stampRoom = record { room = omega (arith, L .lent .work2Room) };
       }
+
+  -- what `in_no_triangle` requires, for the same reason
+  markable : {work3′ : List ℕ} → length work3′ ≡ length work3 → UsedLent N F T work3′
+  markable a = record { listed = listed; marksRoom = record { room = omega (arith, L .lent .work3Room) } }
 
   -- where the search for 8 finds none, it is given nowhere
   none-same : {place : ℕ} → Place (SameAsEarlier T) F place → F ≤ place → Nowhere (SameAsEarlier T)
   none-same = placeless-nowhere (λ k f. omega (arith, f .inside, L .lent .whole .whole))
 
-  module _ {head′ link′ first′ : List ℕ} where
+  module _ {ring′ : List ℕ} (ringed : RingBy (3 * F) (firstOn T) ring′) where
     -- the search finds 8
-    finds-same : {k : ℕ} → Place (SameAsEarlier T) F k → k < F → TrianglesJudged N F T head′ link′ first′ 8 k
-    finds-same P l = record { verdict = judged-found P l; table = λ e. absurd (omega arith) }
+    finds-same : {k : ℕ} → Place (SameAsEarlier T) F k → k < F → TrianglesJudged N F T ring′ 8 k
+    finds-same P l = record { verdict = judged-found P l; ringed = ringed }
 
     -- or it does not and the one for 9 finds it
     finds-unused : {k v : ℕ} → Place (SameAsEarlier T) F k → F ≤ k → Place (InNoTriangle N T) N v → v < N
-        → TrianglesJudged N F T head′ link′ first′ 9 v
-    finds-unused P l Q m =
-        record { verdict = judged-later (none-same P l) (judged-found Q m); table = λ e. absurd (omega arith) }
+        → TrianglesJudged N F T ring′ 9 v
+    finds-unused P l Q m = record { verdict = judged-later (none-same P l) (judged-found Q m); ringed = ringed }
 
     -- or neither does
     finds-none : {k v : ℕ} → Place (SameAsEarlier T) F k → F ≤ k → Place (InNoTriangle N T) N v → N ≤ v
-        → EdgeTable F T head′ link′ first′ → TrianglesJudged N F T head′ link′ first′ 0 0
-    finds-none P l Q m table =
+        → TrianglesJudged N F T ring′ 0 0
+    finds-none P l Q m =
         record {
           verdict = judged-later (none-same P l)
               (judged-later (placeless-nowhere (λ v f. f .inside) Q m) judged-none);
-          table = λ e. table;
+          ringed = ringed;
         }
 
 -- ---- from each call to the one before
 
-abbrev entry : tie.After-edge-table-arg6 → tie.Start
-entry c =
-    c .before .before .before .before .before .before .before .before .before .before .before .before .before .before
+abbrev entry : tie.After-ring-table-arg5 → tie.Start
+entry c = c .before .before .before .before .before .before .before .before .before .before .before
 
-abbrev made : tie.After-same-as-earlier-arg6 → tie.After-edge-table
+abbrev made : tie.After-same-as-earlier-arg3 → tie.After-ring-table
 made c =
     c .before .before .before .before .before .before .before .before .before .before .before .before
-    .before .before .before .before .before .before
+    .before
 
-abbrev searched : tie.After-slice-known16 → tie.After-same-as-earlier
-searched c = c .before .before .before .before .before .before
+abbrev searched : tie.After-slice-known12 → tie.After-same-as-earlier
+searched c = c .before .before .before .before
 
-abbrev table : tie.After-slice-known16 → tie.After-edge-table
+abbrev table : tie.After-slice-known12 → tie.After-ring-table
 table c = made (searched c .before)
 
-abbrev start : tie.After-slice-known16 → tie.Start
+abbrev start : tie.After-slice-known12 → tie.Start
 start c = entry (table c .before)
 
-abbrev left : tie.After-slice-known17 → tie.Else1
+abbrev left : tie.After-slice-known13 → tie.Else1
 left c = c .before .before .before .before
 
 -- ---- the answers
 
-edge-table-requires : tie.Need-edge-table-requires
-edge-table-requires c κs = edgeable (entry c .pre)
+ring-table-requires : tie.Need-ring-table-requires
+ring-table-requires c κs = joinable (entry c .pre)
 
 same-as-earlier-requires : tie.Need-same-as-earlier-requires
 same-as-earlier-requires c κs =
     let t = made c in
-    let kept = t .edge-table .kept .1 .1 .1 in
-    searchable (entry (t .before) .pre) (kept .0) (kept .1 .0) (kept .1 .1 .0) (kept .1 .1 .1 .0)
-    (kept .1 .1 .1 .1 .0) (kept .1 .1 .1 .1 .1 .0) (t .edge-table .ensures)
+    let kept = t .ring-table .kept .1 .1 .1 in
+    searchable (entry (t .before) .pre) (kept .0) (kept .1 .0) (kept .1 .1 .1 .1 .0) (t .ring-table .ensures)
 
 same-length : tie.Need-same-length
 same-length c = search needs
@@ -136,18 +135,18 @@ same-length-4 c = search needs
 same-length-5 : tie.Need-same-length-5
 same-length-5 c = search needs
 
-same-length-6 : tie.Need-same-length-6
-same-length-6 c = search needs
-
 returns : tie.Need-returns
 returns c =
     let d = c .before in
-    finds-same (start d .pre) (searched d .same-as-earlier .ensures) (c .if1 .taken)
+    finds-same (start d .pre) (table d .ring-table .ensures) (searched d .same-as-earlier .ensures) (c .if1 .taken)
 
 in-no-triangle-requires : tie.Need-in-no-triangle-requires
 in-no-triangle-requires c κs =
-    let L = start (c .before .before) .pre in
-    record { listed = listed L; marksRoom = L .lent .work4Room }
+    let d = c .before .before in
+    markable (start d .pre) (table d .ring-table .kept .1 .1 .1 .1 .1 .0)
+
+same-length-6 : tie.Need-same-length-6
+same-length-6 c = search needs
 
 same-length-7 : tie.Need-same-length-7
 same-length-7 c = search needs
@@ -161,6 +160,13 @@ same-length-9 c = search needs
 same-length-10 : tie.Need-same-length-10
 same-length-10 c = search needs
 
+returns-2 : tie.Need-returns-2
+returns-2 c =
+    let l = left (c .before) in
+    let d = l .before in
+    finds-unused (start d .pre) (table d .ring-table .ensures) (searched d .same-as-earlier .ensures) (l .if1 .left)
+    (c .before .before .before .in-no-triangle .ensures) (c .if2 .taken)
+
 same-length-11 : tie.Need-same-length-11
 same-length-11 c = search needs
 
@@ -170,66 +176,41 @@ same-length-12 c = search needs
 same-length-13 : tie.Need-same-length-13
 same-length-13 c = search needs
 
-returns-2 : tie.Need-returns-2
-returns-2 c =
-    let l = left (c .before) in
-    finds-unused (start (l .before) .pre) (searched (l .before) .same-as-earlier .ensures) (l .if1 .left)
-    (c .before .before .before .in-no-triangle .ensures) (c .if2 .taken)
-
 same-length-14 : tie.Need-same-length-14
 same-length-14 c = search needs
 
 same-length-15 : tie.Need-same-length-15
 same-length-15 c = search needs
 
-same-length-16 : tie.Need-same-length-16
-same-length-16 c = search needs
-
-same-length-17 : tie.Need-same-length-17
-same-length-17 c = search needs
-
-same-length-18 : tie.Need-same-length-18
-same-length-18 c = search needs
-
-same-length-19 : tie.Need-same-length-19
-same-length-19 c = search needs
-
-same-length-20 : tie.Need-same-length-20
-same-length-20 c = search needs
-
 returns-3 : tie.Need-returns-3
 returns-3 c =
     let l = left (c .before) in
-    finds-none (start (l .before) .pre) (searched (l .before) .same-as-earlier .ensures) (l .if1 .left)
-    (c .before .before .before .in-no-triangle .ensures) (c .if2 .left) (table (l .before) .edge-table .ensures)
+    let d = l .before in
+    finds-none (start d .pre) (table d .ring-table .ensures) (searched d .same-as-earlier .ensures) (l .if1 .left)
+    (c .before .before .before .in-no-triangle .ensures) (c .if2 .left)
 
 pub judge-triangles-spec : {M : Type 1} → statement M
 judge-triangles-spec =
     tie.close
     (tie.spec
-    edge-table-requires
+    ring-table-requires
     same-as-earlier-requires
     same-length
     same-length-2
     same-length-3
     same-length-4
     same-length-5
-    same-length-6
     returns
     in-no-triangle-requires
+    same-length-6
     same-length-7
     same-length-8
     same-length-9
     same-length-10
+    returns-2
     same-length-11
     same-length-12
     same-length-13
-    returns-2
     same-length-14
     same-length-15
-    same-length-16
-    same-length-17
-    same-length-18
-    same-length-19
-    same-length-20
     returns-3)

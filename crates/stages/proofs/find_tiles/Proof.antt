@@ -1,8 +1,8 @@
 -- `stages::find_tiles` meets its contract: what is reached from the start is marked, and the rows of the marked
 -- triangles are selected and counted.
 use native.Mathlib.Omega.{arith}
-use Prim.Native.Nat.{ℕ, _*_, _%_, _≤_, _<_}
-use mathlib.Core.Path.{_≡_, refl, sym, _∙_}
+use Prim.Native.Nat.{ℕ, _*_, _/_, _%_, _≤_, _<_}
+use mathlib.Core.Path.{_≡_, sym, _∙_}
 use mathlib.Core.Logic.{_≢_}
 use mathlib.Core.List.{List}
 use borrow.Author.Needs.{needs}
@@ -10,7 +10,8 @@ use Rattle.theory.specs.Mesh.{at}
 use Rattle.theory.proofs.Counting.{count-le}
 use Rattle.lists.specs.Marks.{marked}
 use Rattle.lists.proofs.Lists.{by-eq, by-lt}
-use Rattle.mesh.specs.Reached.{ReachLent, Marked}
+use Rattle.rings.specs.Others.{HasMate}
+use Rattle.reach.specs.Reached.{ReachLent, Reached}
 use Rattle.tiles.specs.Starts.{StartLent, startOf}
 use Rattle.tiles.specs.Selected.{Selected}
 use Rattle.tiles.proofs.Starts.{tileOf-within, startOf-own, startOf-beside, startOf-none}
@@ -18,63 +19,54 @@ use Rattle.stages.specs.Role.{FindLent, Gathered, nowhere, uneven, quart
 use Rattle.stages.proofs.find_tiles.Statement.{statement}
 use Rattle.stages.proofs.find_tiles.Tie as tie
 
-module _ {F : ℕ} {mate rows first link owners marks₀ kept₀ queue opened : List ℕ}
-    (L : FindLent F mate rows first link owners marks₀ kept₀ queue opened) where
-  -- each half-edge is one of a triangle below F
-  owner-below : (h : ℕ) → h < 3 * F → at owners h < F
-  owner-below h l = omega (arith, L .owned .entry h l)
-
+module _ {F : ℕ} {other rows ring marks₀ kept₀ queue opened : List ℕ}
+    (L : FindLent F other rows ring marks₀ kept₀ queue opened) where
   -- what `start` requires
-  startable : (role : ℕ) → StartLent role F mate owners rows
-  startable role = record {
-    some = L .some;
-    small = L .small;
-    mateRoom = L .mateRoom;
-    ownerRoom = L .ownersRoom;
-    rowsRoom = L .rowsRoom;
-    owned = owner-below;
-  }
+  startable : (role : ℕ) → StartLent role F other rows
+  startable role = record { some = L .some; small = L .small; otherRoom = L .otherRoom; rowsRoom = L .rowsRoom }
 
   -- the start is one of the triangles, or F
-  start-within : (role : ℕ) → startOf role F mate owners rows ≤ F
+  start-within : (role : ℕ) → startOf role F other rows ≤ F
   start-within role =
       by-eq role 0
-      (λ e. rw (startOf-own F mate owners rows role e) (tileOf-within F rows 0 (omega arith)))
+      (λ e. rw (startOf-own F other rows role e) (tileOf-within F rows 0 (omega arith)))
       (λ n.
-      by-lt (at mate (role % 3)) (3 * F)
-      (beside n)
-      (λ l. omega (arith, startOf-none F mate owners rows role n refl l)))
+      by-eq (at other (role % 3)) (role % 3)
+      (λ own. none n (λ M. M .another own))
+      (λ another.
+      by-lt (at other (role % 3)) (3 * F)
+      (λ l. beside n (record { inside = l; another = another }))
+      (λ l. none n (λ M. omega (arith, M .inside)))))
     where
-      beside : role ≢ 0 → at mate (role % 3) < 3 * F → startOf role F mate owners rows ≤ F
-      beside n l =
-          rw (startOf-beside F mate owners rows role n refl l refl)
-          (tileOf-within F rows (at owners (at mate (role % 3))) (omega (arith, owner-below (at mate (role % 3)) l)))
+      beside : role ≢ 0 → HasMate (3 * F) other (role % 3) → startOf role F other rows ≤ F
+      beside n M =
+          rw (startOf-beside F other rows role n M)
+          (tileOf-within F rows (at other (role % 3) / 3) (omega (arith, M .inside)))
 
-  module _ (role : ℕ) {s : ℕ} (starts : s ≡ startOf role F mate owners rows) (somewhere : s ≢ F) where
+      none : role ≢ 0 → (HasMate (3 * F) other (role % 3) → ⊥) → startOf role F other rows ≤ F
+      none n unmated = omega (arith, startOf-none F other rows role n unmated)
+
+  module _ (role : ℕ) {s : ℕ} (starts : s ≡ startOf role F other rows) (somewhere : s ≢ F) where
     -- a start other than F is one of the triangles
     start-inside : s < F
     start-inside = omega (arith, start-within role)
 
     -- what `reach` requires
-    reachable : ReachLent s F first link owners marks₀ queue opened
+    reachable : ReachLent s F ring marks₀ queue opened
     reachable = record {
       inside = start-inside;
       small = L .small;
-      firstRoom = L .firstRoom;
-      linkRoom = L .linkRoom;
-      ownersRoom = L .ownersRoom;
+      ringRoom = L .ringRoom;
       marksRoom = L .marksRoom;
       queueRoom = L .queueRoom;
       openedRoom = L .openedRoom;
-      firstWithin = L .firstWithin;
-      firstOwn = L .firstOwn;
-      links = L .links;
-      owned = L .owned;
+      key = L .key;
+      ringed = L .ringed;
     }
 
     -- what is marked and selected
-    gathered : {n : ℕ} {marks kept : List ℕ} → Marked s F first marks → Selected F rows marks n kept
-        → Gathered (startOf role F mate owners rows) F rows first marks kept n
+    gathered : {n : ℕ} {marks kept : List ℕ} → Reached s F ring marks → Selected F rows marks n kept
+        → Gathered (startOf role F other rows) F rows ring marks kept n
     gathered reached selected = rw (← starts) (record { inside = start-inside; reached = reached; selected = selected })
 
 -- four times as many as are selected fit
@@ -84,7 +76,7 @@ four-fits {F} {marks = marks} l S = omega (arith, S .all, count-le (marked marks
 -- ---- from each place to the one before
 
 abbrev entry : tie.After-start → tie.Start
-entry c = c .before .before .before .before .before .before .before .before .before .before
+entry c = c .before .before .before .before .before .before .before .before
 
 abbrev started : tie.After-reach → tie.Else1
 started c = c .before .before .before .before
@@ -96,7 +88,7 @@ marked-by c = c .before .before .before .before .before .before .before .before 
 
 start-requires : tie.Need-start-requires
 start-requires c κs =
-    let e = c .before .before .before .before .before .before .before .before .before in
+    let e = c .before .before .before .before .before .before .before in
     startable (e .pre) (e .args .role)
 
 returns : tie.Need-returns

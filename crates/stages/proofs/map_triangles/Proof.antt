@@ -8,7 +8,7 @@ use Rattle.stages.proofs.map_triangles.Tie as tie
 
 -- the function's start
 abbrev start : tie.After-claims → tie.Start
-start c = c .before .before .before .before .before .before .before
+start c = c .before .before .before .before .before .before
 
 claims-requires : tie.Need-claims-requires
 claims-requires c κs = search needs
@@ -16,13 +16,13 @@ claims-requires c κs = search needs
 invert-requires : tie.Need-invert-requires
 invert-requires c κs =
     let call = c .before .before .before .before in
-    claimed-lent (start call .pre) (call .claims .ensures) (call .claims .kept .1 .1 .1 .1 .0) refl
+    claimed-lent (start call .pre) (call .claims .ensures) (call .claims .kept .1 .1 .1 .0) refl
 
 inverts-requires : tie.Need-inverts-requires
 inverts-requires c κs =
     let inverted = c .before .before .before .before in
     let call = inverted .before .before .before .before .before in
-    claimed-lent (start call .pre) (call .claims .ensures) (call .claims .kept .1 .1 .1 .1 .0)
+    claimed-lent (start call .pre) (call .claims .ensures) (call .claims .kept .1 .1 .1 .0)
     (inverted .invert .kept .1 .1 .0)
 
 same-length : tie.Need-same-length

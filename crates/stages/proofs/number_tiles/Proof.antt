@@ -6,14 +6,14 @@ use lib.ListN.{length}
 use lib.Seq.{length-take-le}
 use borrow.Author.Needs.{needs}
 use Rattle.stages.specs.Role.{CoarseTables, even, odd}
-use Rattle.stages.proofs.Numbers.{markable, gatherable, firstable, tables, numberable, sum-fits}
+use Rattle.stages.proofs.Numbers.{markable, gatherable, selectable, tables, numberable, sum-fits}
 use Rattle.stages.proofs.number_tiles.Statement.{statement}
 use Rattle.stages.proofs.number_tiles.Tie as tie
 
 -- ---- from each call to the one before
 
 abbrev entry : tie.After-fill → tie.Start
-entry c = c .before .before .before .before .before .before .before .before .before .before
+entry c = c .before .before .before .before .before .before .before .before .before
 
 abbrev clearing : tie.After-mark-used → tie.After-fill
 clearing c = c .before .before .before .before .before
@@ -27,37 +27,37 @@ ranking c = c .before .before .before .before .before
 abbrev gathering : tie.After-ranks2 → tie.After-gather
 gathering c = c .before .before .before .before
 
-abbrev tiling : tie.After-selected-firsts → tie.After-ranks2
+abbrev tiling : tie.After-selected-ring → tie.After-ranks2
 tiling c = c .before .before .before .before .before
 
-abbrev origin : tie.After-selected-firsts → tie.Start
+abbrev origin : tie.After-selected-ring → tie.Start
 origin c = entry (clearing (marking (ranking (gathering (tiling c)))))
 
-abbrev selecting : tie.After-number-edges → tie.After-selected-firsts
+abbrev selecting : tie.After-number-edges → tie.After-selected-ring
 selecting c = c .before .before .before .before .before
 
 -- ---- what the calls have made
 
 -- the tables of the coarse mesh
-made : (c : tie.After-selected-firsts)
+made : (c : tie.After-selected-ring)
     → CoarseTables (origin c .args .vertices) (origin c .args .triangles) (origin c .args .count)
-    (origin c .args .first .now) (origin c .args .owner .now) (origin c .args .marks .now) (origin c .args .kept .now)
+    (origin c .args .ring .now) (origin c .args .marks .now) (origin c .args .kept .now)
     (ranking (gathering (tiling c)) .ranks .result) (gathering (tiling c) .gather .last .1 .1 .1 .0)
-    (c .selected-firsts .last .1 .1 .1 .1 .1 .0)
+    (c .selected-ring .last .1 .1 .1 .1 .0)
 made c =
     let t = tiling c in
     let g = gathering t in
     let r = ranking g in
     let m = marking r in
     tables (entry (clearing m) .pre) (m .mark-used .ensures) (r .ranks .ensures) (g .gather .kept .1 .1 .1 .0)
-    (g .gather .ensures) (t .ranks2 .ensures) (c .selected-firsts .ensures)
+    (g .gather .ensures) (t .ranks2 .ensures) (c .selected-ring .ensures)
 
--- the table of first half-edges is as long as at first
-table-length : (c : tie.After-selected-firsts)
-    → length (c .selected-firsts .last .1 .1 .1 .1 .1 .0) ≡ length (origin c .args .table .now)
+-- the table of the rings is as long as at first
+table-length : (c : tie.After-selected-ring)
+    → length (c .selected-ring .last .1 .1 .1 .1 .0) ≡ length (origin c .args .table .now)
 table-length c =
     let m = marking (ranking (gathering (tiling c))) in
-    c .selected-firsts .kept .1 .1 .1 .1 .1 .0 ∙ m .mark-used .kept .1 .1 .1 .0 ∙ clearing m .fill .kept .0
+    c .selected-ring .kept .1 .1 .1 .1 .0 ∙ m .mark-used .kept .1 .1 .1 .0 ∙ clearing m .fill .kept .0
 
 -- ---- the answers
 
@@ -86,12 +86,12 @@ gather-requires c κs =
 ranks-requires-2 : tie.Need-ranks-requires-2
 ranks-requires-2 c κs = search needs
 
-selected-firsts-requires : tie.Need-selected-firsts-requires
-selected-firsts-requires c κs =
+selected-ring-requires : tie.Need-selected-ring-requires
+selected-ring-requires c κs =
     let t = c .before .before .before .before in
     let r = ranking (gathering t) in
     let m = marking r in
-    firstable (entry (clearing m) .pre) (t .ranks2 .kept .1 .1 .0 ∙ r .ranks .kept .1 .1 .0)
+    selectable (entry (clearing m) .pre) (t .ranks2 .kept .1 .1 .0 ∙ r .ranks .kept .1 .1 .0)
     (m .mark-used .kept .1 .1 .1 .0 ∙ clearing m .fill .kept .0) (t .ranks2 .ensures)
 
 number-edges-requires : tie.Need-number-edges-requires
@@ -125,7 +125,7 @@ returns c =
     record {
       vertices = _;
       edges = _;
-      firstC = _;
+      ringC = _;
       tables = made (selecting d);
       numbered = d .number-edges .ensures;
       answers = odd (c .if1 .taken);
@@ -149,7 +149,7 @@ returns-2 c =
     record {
       vertices = _;
       edges = _;
-      firstC = _;
+      ringC = _;
       tables = made (selecting d);
       numbered = d .number-edges .ensures;
       answers = even (c .if1 .left);
@@ -166,7 +166,7 @@ number-tiles-spec =
     ranks-requires
     gather-requires
     ranks-requires-2
-    selected-firsts-requires
+    selected-ring-requires
     number-edges-requires
     add-if1
     add-result

@@ -59,24 +59,6 @@ array-borrow-prefix-work5 c = search needs
 slice-aggregate-split-and-print-6 : tie.Need-slice-aggregate-split-and-print-6
 slice-aggregate-split-and-print-6 c = simp length-take (omega arith)
 
-room-requires-7 : tie.Need-room-requires-7
-room-requires-7 c κs = search needs
-
-array-borrow-prefix-work6 : tie.Need-array-borrow-prefix-work6
-array-borrow-prefix-work6 c = search needs
-
-slice-aggregate-split-and-print-7 : tie.Need-slice-aggregate-split-and-print-7
-slice-aggregate-split-and-print-7 c = simp length-take (omega arith)
-
-room-requires-8 : tie.Need-room-requires-8
-room-requires-8 c κs = search needs
-
-array-borrow-prefix-work7 : tie.Need-array-borrow-prefix-work7
-array-borrow-prefix-work7 c = search needs
-
-slice-aggregate-split-and-print-8 : tie.Need-slice-aggregate-split-and-print-8
-slice-aggregate-split-and-print-8 c = simp length-take (omega arith)
-
 split-and-print-requires : tie.Need-split-and-print-requires
 split-and-print-requires c κs = search needs
 
@@ -105,11 +87,5 @@ try-lent-spec =
     room-requires-6
     array-borrow-prefix-work5
     slice-aggregate-split-and-print-6
-    room-requires-7
-    array-borrow-prefix-work6
-    slice-aggregate-split-and-print-7
-    room-requires-8
-    array-borrow-prefix-work7
-    slice-aggregate-split-and-print-8
     split-and-print-requires
     returns)

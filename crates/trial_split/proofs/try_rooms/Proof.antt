@@ -1,15 +1,15 @@
 -- `trial_split::try_rooms` meets its contract.
--- The invariant: `short` is at most 9. The measure is what is left of 9.
+-- The invariant: `short` is at most 7. The measure is what is left of 7.
 use Prim.Native.Nat.{_≤_, _-_}
 use borrow.Author.Needs.{needs}
 use Rattle.trial_split.proofs.try_rooms.Statement.{statement}
 use Rattle.trial_split.proofs.try_rooms.Tie as tie
 
 abbrev Inv-loop : tie.InvT-loop
-Inv-loop short₀ list short = short ≤ 9
+Inv-loop short₀ list short = short ≤ 7
 
 abbrev μ-loop : tie.MeasureT-loop
-μ-loop short₀ list short = 9 - short
+μ-loop short₀ list short = 7 - short
 
 loop-holds : tie.Need-loop-holds Inv-loop μ-loop
 loop-holds c = search needs

@@ -18,12 +18,6 @@ start11 c = start10 (c .before .before)
 abbrev start12 : tie.After-room12 → tie.Start
 start12 c = start11 (c .before .before)
 
-abbrev start13 : tie.After-room13 → tie.Start
-start13 c = start12 (c .before .before)
-
-abbrev start14 : tie.After-room14 → tie.Start
-start14 c = start13 (c .before .before)
-
 room-requires : tie.Need-room-requires
 room-requires c κs = search needs
 
@@ -132,24 +126,6 @@ array-borrow-prefix-work9 c = omega (arith, start12 c .pre .1 .1 .1)
 slice-aggregate-undo-and-print-12 : tie.Need-slice-aggregate-undo-and-print-12
 slice-aggregate-undo-and-print-12 c = simp length-take (omega (arith, start12 (c .before) .pre .1 .1 .1))
 
-room-requires-13 : tie.Need-room-requires-13
-room-requires-13 c κs = search needs
-
-array-borrow-prefix-work10 : tie.Need-array-borrow-prefix-work10
-array-borrow-prefix-work10 c = omega (arith, start13 c .pre .1 .1 .1)
-
-slice-aggregate-undo-and-print-13 : tie.Need-slice-aggregate-undo-and-print-13
-slice-aggregate-undo-and-print-13 c = simp length-take (omega (arith, start13 (c .before) .pre .1 .1 .1))
-
-room-requires-14 : tie.Need-room-requires-14
-room-requires-14 c κs = search needs
-
-array-borrow-prefix-work11 : tie.Need-array-borrow-prefix-work11
-array-borrow-prefix-work11 c = omega (arith, start14 c .pre .1 .1 .1)
-
-slice-aggregate-undo-and-print-14 : tie.Need-slice-aggregate-undo-and-print-14
-slice-aggregate-undo-and-print-14 c = simp length-take (omega (arith, start14 (c .before) .pre .1 .1 .1))
-
 undo-and-print-requires : tie.Need-undo-and-print-requires
 undo-and-print-requires c κs = search needs
 
@@ -196,11 +172,5 @@ try-lent-spec =
     room-requires-12
     array-borrow-prefix-work9
     slice-aggregate-undo-and-print-12
-    room-requires-13
-    array-borrow-prefix-work10
-    slice-aggregate-undo-and-print-13
-    room-requires-14
-    array-borrow-prefix-work11
-    slice-aggregate-undo-and-print-14
     undo-and-print-requires
     returns)

@@ -1,15 +1,15 @@
 -- `trial_undo_one::try_rooms` meets its contract.
--- The invariant: `short` is at most 15. The measure is what is left of 15.
+-- The invariant: `short` is at most 13. The measure is what is left of 13.
 use Prim.Native.Nat.{_≤_, _-_}
 use borrow.Author.Needs.{needs}
 use Rattle.trial_undo_one.proofs.try_rooms.Statement.{statement}
 use Rattle.trial_undo_one.proofs.try_rooms.Tie as tie
 
 abbrev Inv-loop : tie.InvT-loop
-Inv-loop short₀ t3 short = short ≤ 15
+Inv-loop short₀ t3 short = short ≤ 13
 
 abbrev μ-loop : tie.MeasureT-loop
-μ-loop short₀ t3 short = 15 - short
+μ-loop short₀ t3 short = 13 - short
 
 slice-aggregate-write-all : tie.Need-slice-aggregate-write-all Inv-loop μ-loop
 slice-aggregate-write-all c = search needs

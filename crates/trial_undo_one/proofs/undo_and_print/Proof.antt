@@ -7,10 +7,9 @@ use Rattle.trial_undo_one.proofs.undo_and_print.Tie as tie
 -- from the end back to the call
 abbrev called : tie.After-print-all → tie.After-flatcarol-undo-one
 called c =
-    c .before .before .before .before .before .before .before .before .before .before .before .before .before .before
+    c .before .before .before .before .before .before .before .before .before .before .before .before .before
     .before .before .before .before .before .before .before .before .before .before .before .before .before .before
-    .before .before .before .before .before .before .before .before .before .before .before .before .before .before
-    .before .before .before .before
+    .before .before .before .before .before .before .before .before .before .before .before .before .before
 
 flatcarol-undo-one-requires : tie.Need-flatcarol-undo-one-requires
 flatcarol-undo-one-requires c κs = search needs
@@ -63,12 +62,6 @@ same-length-11 c = called c .flatcarol-undo-one .kept .1 .1 .1 .1 .1 .1 .1 .1 .1
 same-length-12 : tie.Need-same-length-12
 same-length-12 c = called c .flatcarol-undo-one .kept .1 .1 .1 .1 .1 .1 .1 .1 .1 .1 .1 .1 .1 .1 .0
 
-same-length-13 : tie.Need-same-length-13
-same-length-13 c = called c .flatcarol-undo-one .kept .1 .1 .1 .1 .1 .1 .1 .1 .1 .1 .1 .1 .1 .1 .1 .0
-
-same-length-14 : tie.Need-same-length-14
-same-length-14 c = called c .flatcarol-undo-one .kept .1 .1 .1 .1 .1 .1 .1 .1 .1 .1 .1 .1 .1 .1 .1 .1 .0
-
 returns : tie.Need-returns
 returns c = search needs
 
@@ -93,6 +86,4 @@ undo-and-print-spec =
     same-length-10
     same-length-11
     same-length-12
-    same-length-13
-    same-length-14
     returns)

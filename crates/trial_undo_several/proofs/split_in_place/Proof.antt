@@ -29,12 +29,6 @@ slice-aggregate-flatcarol-split-6 c = search needs
 slice-aggregate-flatcarol-split-7 : tie.Need-slice-aggregate-flatcarol-split-7
 slice-aggregate-flatcarol-split-7 c = search needs
 
-slice-aggregate-flatcarol-split-8 : tie.Need-slice-aggregate-flatcarol-split-8
-slice-aggregate-flatcarol-split-8 c = search needs
-
-slice-aggregate-flatcarol-split-9 : tie.Need-slice-aggregate-flatcarol-split-9
-slice-aggregate-flatcarol-split-9 c = search needs
-
 flatcarol-split-requires : tie.Need-flatcarol-split-requires
 flatcarol-split-requires c κs = search needs
 
@@ -62,8 +56,6 @@ split-in-place-spec =
     slice-aggregate-flatcarol-split-5
     slice-aggregate-flatcarol-split-6
     slice-aggregate-flatcarol-split-7
-    slice-aggregate-flatcarol-split-8
-    slice-aggregate-flatcarol-split-9
     flatcarol-split-requires
     slice-aggregate-put
     put-requires

@@ -12,12 +12,6 @@ start11 c =
     c .before .before .before .before .before .before .before .before .before .before .before .before .before .before
     .before .before .before .before .before .before .before .before
 
-abbrev start12 : tie.After-room12 → tie.Start
-start12 c = start11 (c .before .before)
-
-abbrev start13 : tie.After-room13 → tie.Start
-start13 c = start12 (c .before .before)
-
 room-requires : tie.Need-room-requires
 room-requires c κs = search needs
 
@@ -117,24 +111,6 @@ array-borrow-prefix-work10 c = search needs
 slice-aggregate-undo-and-print-11 : tie.Need-slice-aggregate-undo-and-print-11
 slice-aggregate-undo-and-print-11 c = simp length-take (omega (arith, start11 (c .before) .pre .1))
 
-room-requires-12 : tie.Need-room-requires-12
-room-requires-12 c κs = search needs
-
-array-borrow-prefix-work11 : tie.Need-array-borrow-prefix-work11
-array-borrow-prefix-work11 c = omega (arith, start12 c .pre .1)
-
-slice-aggregate-undo-and-print-12 : tie.Need-slice-aggregate-undo-and-print-12
-slice-aggregate-undo-and-print-12 c = simp length-take (omega (arith, start12 (c .before) .pre .1))
-
-room-requires-13 : tie.Need-room-requires-13
-room-requires-13 c κs = search needs
-
-array-borrow-prefix-work12 : tie.Need-array-borrow-prefix-work12
-array-borrow-prefix-work12 c = omega (arith, start13 c .pre .1)
-
-slice-aggregate-undo-and-print-13 : tie.Need-slice-aggregate-undo-and-print-13
-slice-aggregate-undo-and-print-13 c = simp length-take (omega (arith, start13 (c .before) .pre .1))
-
 undo-and-print-requires : tie.Need-undo-and-print-requires
 undo-and-print-requires c κs = search needs
 
@@ -178,11 +154,5 @@ try-lent-spec =
     room-requires-11
     array-borrow-prefix-work10
     slice-aggregate-undo-and-print-11
-    room-requires-12
-    array-borrow-prefix-work11
-    slice-aggregate-undo-and-print-12
-    room-requires-13
-    array-borrow-prefix-work12
-    slice-aggregate-undo-and-print-13
     undo-and-print-requires
     returns)

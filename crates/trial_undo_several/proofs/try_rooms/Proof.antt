@@ -1,15 +1,15 @@
 -- `trial_undo_several::try_rooms` meets its contract.
--- The invariant: `short` is at most 14. The measure is what is left of 14.
+-- The invariant: `short` is at most 12. The measure is what is left of 12.
 use Prim.Native.Nat.{_≤_, _-_}
 use borrow.Author.Needs.{needs}
 use Rattle.trial_undo_several.proofs.try_rooms.Statement.{statement}
 use Rattle.trial_undo_several.proofs.try_rooms.Tie as tie
 
 abbrev Inv-loop : tie.InvT-loop
-Inv-loop short₀ t4 short = short ≤ 14
+Inv-loop short₀ t4 short = short ≤ 12
 
 abbrev μ-loop : tie.MeasureT-loop
-μ-loop short₀ t4 short = 14 - short
+μ-loop short₀ t4 short = 12 - short
 
 slice-aggregate-write-all : tie.Need-slice-aggregate-write-all Inv-loop μ-loop
 slice-aggregate-write-all c = search needs

@@ -7,9 +7,9 @@ use Rattle.trial_undo_several.proofs.undo_and_print.Tie as tie
 -- from the end back to the call
 abbrev called : tie.After-print-output → tie.After-flatcarol-undo-several
 called c =
-    c .before .before .before .before .before .before .before .before .before .before .before .before .before .before
+    c .before .before .before .before .before .before .before .before .before .before .before .before .before
     .before .before .before .before .before .before .before .before .before .before .before .before .before .before
-    .before .before .before .before .before .before .before .before .before .before .before .before .before .before
+    .before .before .before .before .before .before .before .before .before
 
 flatcarol-undo-several-requires : tie.Need-flatcarol-undo-several-requires
 flatcarol-undo-several-requires c κs = search needs
@@ -56,12 +56,6 @@ same-length-10 c = search needs
 same-length-11 : tie.Need-same-length-11
 same-length-11 c = search needs
 
-same-length-12 : tie.Need-same-length-12
-same-length-12 c = search needs
-
-same-length-13 : tie.Need-same-length-13
-same-length-13 c = search needs
-
 returns : tie.Need-returns
 returns c = search needs
 
@@ -84,6 +78,4 @@ undo-and-print-spec =
     same-length-9
     same-length-10
     same-length-11
-    same-length-12
-    same-length-13
     returns)

@@ -9,13 +9,13 @@ use Rattle.answer.proofs.undoing.print_mesh.Tie as tie
 abbrev undone : tie.After-print-undone-arg → tie.After-flatcarol-undo-one
 undone c =
     c .before .before .before .before .before .before .before .before .before .before .before .before .before .before
-    .before .before .before .before
+    .before .before
 
 -- and to the start
 abbrev start : tie.After-flatcarol-undo-one → tie.Start
 start c =
     c .before .before .before .before .before .before .before .before .before .before .before .before .before .before
-    .before .before .before
+    .before
 
 slice-aggregate-flatcarol-undo-one : tie.Need-slice-aggregate-flatcarol-undo-one
 slice-aggregate-flatcarol-undo-one c = search needs
@@ -52,12 +52,6 @@ slice-aggregate-flatcarol-undo-one-11 c = search needs
 
 slice-aggregate-flatcarol-undo-one-12 : tie.Need-slice-aggregate-flatcarol-undo-one-12
 slice-aggregate-flatcarol-undo-one-12 c = search needs
-
-slice-aggregate-flatcarol-undo-one-13 : tie.Need-slice-aggregate-flatcarol-undo-one-13
-slice-aggregate-flatcarol-undo-one-13 c = search needs
-
-slice-aggregate-flatcarol-undo-one-14 : tie.Need-slice-aggregate-flatcarol-undo-one-14
-slice-aggregate-flatcarol-undo-one-14 c = search needs
 
 flatcarol-undo-one-requires : tie.Need-flatcarol-undo-one-requires
 flatcarol-undo-one-requires c κs = search needs
@@ -112,8 +106,6 @@ print-mesh-spec =
     slice-aggregate-flatcarol-undo-one-10
     slice-aggregate-flatcarol-undo-one-11
     slice-aggregate-flatcarol-undo-one-12
-    slice-aggregate-flatcarol-undo-one-13
-    slice-aggregate-flatcarol-undo-one-14
     flatcarol-undo-one-requires
     slice-aggregate-print-undone
     slice-aggregate-print-undone-2

@@ -16,72 +16,68 @@ use Rattle.flatcarol.proofs.call_split.flatcarol_split.Tie as tie
 -- ---- from each call to the one before
 
 abbrev entry : tie.After-judge-split-size → tie.Start
-entry c = c .before .before .before .before .before .before .before .before .before .before .before
+entry c = c .before .before .before .before .before .before .before .before .before
 
-abbrev judged : tie.After-clear-seven → tie.After-judge-split-size
-judged c = c .before .before .before .before .before .before .before .before
+abbrev judged : tie.After-clear-five → tie.After-judge-split-size
+judged c = c .before .before .before .before .before .before
 
-abbrev cleared : tie.After-slice-known15 → tie.After-clear-seven
-cleared c =
-    c .before .before .before .before .before .before .before .before .before .before .before .before .before
-    .before
+abbrev cleared : tie.After-slice-known11 → tie.After-clear-five
+cleared c = c .before .before .before .before .before .before .before .before .before .before
 
-abbrev left : tie.After-split-mesh-arg8 → tie.Else1
-left c = c .before .before .before .before .before .before .before .before
+abbrev left : tie.After-split-mesh-arg6 → tie.Else1
+left c = c .before .before .before .before .before .before
 
-abbrev worked : tie.After-clear-seven2 → tie.After-split-mesh
+abbrev worked : tie.After-clear-five2 → tie.After-split-mesh
 worked c =
     c .before .before .before .before .before .before .before .before .before .before .before .before .before
-    .before .before .before .before .before .before .before .before .before .before .before
+    .before .before .before .before .before
 
-abbrev end : tie.After-slice-known30 → tie.After-clear-seven2
-end c =
-    c .before .before .before .before .before .before .before .before .before .before .before .before .before
-    .before
+abbrev end : tie.After-slice-known22 → tie.After-clear-five2
+end c = c .before .before .before .before .before .before .before .before .before .before
 
 -- the first clearing before the second
-abbrev first : tie.After-clear-seven2 → tie.After-clear-seven
+abbrev first : tie.After-clear-five2 → tie.After-clear-five
 first c = cleared (left (worked c .before) .before)
 
--- ---- the seven work buffers
+-- ---- the five work buffers
 
 -- as they are lent, all but the first
 abbrev others : tie.Start → List (List ℕ)
 others s =
     let a = s .args in
-    a .work2 .now ∷ a .work3 .now ∷ a .work4 .now ∷ a .work5 .now ∷ a .work6 .now ∷ a .work7 .now ∷ []
+    a .work2 .now ∷ a .work3 .now ∷ a .work4 .now ∷ a .work5 .now ∷ []
 
 -- and with the first
 abbrev lent : tie.Start → List (List ℕ)
 lent s = s .args .work1 .now ∷ others s
 
 -- as they are first cleared
-abbrev zero-at-first : tie.After-clear-seven → List (List ℕ)
-zero-at-first c = listed 7 (c .clear-seven .last)
+abbrev zero-at-first : tie.After-clear-five → List (List ℕ)
+zero-at-first c = listed 5 (c .clear-five .last)
 
 -- as `split_mesh` leaves them
 abbrev used : tie.After-split-mesh → List (List ℕ)
-used c = listed 7 (c .split-mesh .last .1 .1 .1)
+used c = listed 5 (c .split-mesh .last .1 .1 .1)
 
 -- as they are at the end
-abbrev zero-at-end : tie.After-clear-seven2 → List (List ℕ)
-zero-at-end c = listed 7 (c .clear-seven2 .last)
+abbrev zero-at-end : tie.After-clear-five2 → List (List ℕ)
+zero-at-end c = listed 5 (c .clear-five2 .last)
 
 -- they are as long when they are first cleared
-as-long-at-first : (c : tie.After-clear-seven) → map length (zero-at-first c) ≡ map length (lent (entry (judged c)))
-as-long-at-first c = cleared-lengths (lent (entry (judged c))) (zero-at-first c) (c .clear-seven .ensures)
+as-long-at-first : (c : tie.After-clear-five) → map length (zero-at-first c) ≡ map length (lent (entry (judged c)))
+as-long-at-first c = cleared-lengths (lent (entry (judged c))) (zero-at-first c) (c .clear-five .ensures)
 
 -- at the end they are zero
-all-zero : (c : tie.After-clear-seven2) → zero-at-end c ≡ map zeros (lent (entry (judged (first c))))
+all-zero : (c : tie.After-clear-five2) → zero-at-end c ≡ map zeros (lent (entry (judged (first c))))
 all-zero c =
     let f = first c in
     let w = worked c in
-    cleared-again (lent (entry (judged f))) (zero-at-first f) (used w) (zero-at-end c) (f .clear-seven .ensures)
+    cleared-again (lent (entry (judged f))) (zero-at-first f) (used w) (zero-at-end c) (f .clear-five .ensures)
     (alike-equal (map length (used w)) (map length (zero-at-first f)) (w .split-mesh .kept .1 .1 .1))
-    (c .clear-seven2 .ensures)
+    (c .clear-five2 .ensures)
 
 -- so they are as long
-as-long-at-end : (c : tie.After-clear-seven2)
+as-long-at-end : (c : tie.After-clear-five2)
     → map length (zero-at-end c) ≡ map length (lent (entry (judged (first c))))
 as-long-at-end c = cleared-lengths (lent (entry (judged (first c)))) (zero-at-end c) (all-zero c)
 
@@ -94,21 +90,21 @@ checks : (c : tie.After-judge-split-size)
     (c .judge-split-size .result)
 checks c = record {
   checked = record {
-    least-length = c .before .shortest-of-seven .result;
-    shortest = c .before .shortest-of-seven .ensures;
+    least-length = c .before .shortest-of-five .result;
+    shortest = c .before .shortest-of-five .ensures;
     verdict = c .judge-split-size .ensures;
     above = omega arith;
   };
 }
 
-shortest-of-seven-requires : tie.Need-shortest-of-seven-requires
-shortest-of-seven-requires c κs = search needs
+shortest-of-five-requires : tie.Need-shortest-of-five-requires
+shortest-of-five-requires c κs = search needs
 
 judge-split-size-requires : tie.Need-judge-split-size-requires
 judge-split-size-requires c κs = search needs
 
-clear-seven-requires : tie.Need-clear-seven-requires
-clear-seven-requires c κs = search needs
+clear-five-requires : tie.Need-clear-five-requires
+clear-five-requires c κs = search needs
 
 refused-requires : tie.Need-refused-requires
 refused-requires c κs = search needs
@@ -128,17 +124,11 @@ same-length-4 c = ap (λ lengths. at lengths 3) (as-long-at-first (cleared (c .b
 same-length-5 : tie.Need-same-length-5
 same-length-5 c = ap (λ lengths. at lengths 4) (as-long-at-first (cleared (c .before .before)))
 
-same-length-6 : tie.Need-same-length-6
-same-length-6 c = ap (λ lengths. at lengths 5) (as-long-at-first (cleared (c .before .before)))
-
-same-length-7 : tie.Need-same-length-7
-same-length-7 c = ap (λ lengths. at lengths 6) (as-long-at-first (cleared (c .before .before)))
-
 returns : tie.Need-returns
 returns c =
     let f = cleared (c .before .before) in
     split-refused (checks (judged f)) {works′ = zero-at-first f} (c .before .if1 .taken) (c .refused .ensures)
-    (f .clear-seven .ensures)
+    (f .clear-five .ensures)
 
 split-mesh-requires : tie.Need-split-mesh-requires
 split-mesh-requires c κs =
@@ -146,32 +136,26 @@ split-mesh-requires c κs =
     let f = cleared (l .before) in
     split-lent (checks (judged f)) (l .if1 .left) (as-long-at-first f)
 
-clear-seven-requires-2 : tie.Need-clear-seven-requires-2
-clear-seven-requires-2 c κs = search needs
+clear-five-requires-2 : tie.Need-clear-five-requires-2
+clear-five-requires-2 c κs = search needs
+
+same-length-6 : tie.Need-same-length-6
+same-length-6 c = worked (end c) .split-mesh .kept .1 .1 .0
+
+same-length-7 : tie.Need-same-length-7
+same-length-7 c = ap (λ lengths. at lengths 0) (as-long-at-end (end c))
 
 same-length-8 : tie.Need-same-length-8
-same-length-8 c = worked (end c) .split-mesh .kept .1 .1 .0
+same-length-8 c = ap (λ lengths. at lengths 1) (as-long-at-end (end c))
 
 same-length-9 : tie.Need-same-length-9
-same-length-9 c = ap (λ lengths. at lengths 0) (as-long-at-end (end c))
+same-length-9 c = ap (λ lengths. at lengths 2) (as-long-at-end (end c))
 
 same-length-10 : tie.Need-same-length-10
-same-length-10 c = ap (λ lengths. at lengths 1) (as-long-at-end (end c))
+same-length-10 c = ap (λ lengths. at lengths 3) (as-long-at-end (end c))
 
 same-length-11 : tie.Need-same-length-11
-same-length-11 c = ap (λ lengths. at lengths 2) (as-long-at-end (end c))
-
-same-length-12 : tie.Need-same-length-12
-same-length-12 c = ap (λ lengths. at lengths 3) (as-long-at-end (end c))
-
-same-length-13 : tie.Need-same-length-13
-same-length-13 c = ap (λ lengths. at lengths 4) (as-long-at-end (end c))
-
-same-length-14 : tie.Need-same-length-14
-same-length-14 c = ap (λ lengths. at lengths 5) (as-long-at-end (end c))
-
-same-length-15 : tie.Need-same-length-15
-same-length-15 c = ap (λ lengths. at lengths 6) (as-long-at-end (end c))
+same-length-11 c = ap (λ lengths. at lengths 4) (as-long-at-end (end c))
 
 returns-2 : tie.Need-returns-2
 returns-2 c =
@@ -184,26 +168,22 @@ pub flatcarol-split-spec : {M : Type 1} → statement M
 flatcarol-split-spec =
     tie.close
     (tie.spec
-    shortest-of-seven-requires
+    shortest-of-five-requires
     judge-split-size-requires
-    clear-seven-requires
+    clear-five-requires
     refused-requires
     same-length
     same-length-2
     same-length-3
     same-length-4
     same-length-5
-    same-length-6
-    same-length-7
     returns
     split-mesh-requires
-    clear-seven-requires-2
+    clear-five-requires-2
+    same-length-6
+    same-length-7
     same-length-8
     same-length-9
     same-length-10
     same-length-11
-    same-length-12
-    same-length-13
-    same-length-14
-    same-length-15
     returns-2)

@@ -19,76 +19,74 @@ use Rattle.flatcarol.proofs.call_undo_one.flatcarol_undo_one.Tie as tie
 abbrev entry : tie.After-judge-undo-one-size → tie.Start
 entry c =
     c .before .before .before .before .before .before .before .before .before .before .before .before .before
-    .before .before .before .before
+    .before .before
 
-abbrev judged : tie.After-clear-eleven → tie.After-judge-undo-one-size
-judged c = c .before .before .before .before .before .before .before .before .before .before .before .before
+abbrev judged : tie.After-clear-nine → tie.After-judge-undo-one-size
+judged c = c .before .before .before .before .before .before .before .before .before .before
 
-abbrev cleared : tie.After-slice-known25 → tie.After-clear-eleven
+abbrev cleared : tie.After-slice-known21 → tie.After-clear-nine
 cleared c =
     c .before .before .before .before .before .before .before .before .before .before .before .before .before
-    .before .before .before .before .before .before .before .before .before
+    .before .before .before .before .before
 
-abbrev left : tie.After-undo-mesh-arg14 → tie.Else1
-left c =
-    c .before .before .before .before .before .before .before .before .before .before .before .before .before
-    .before
+abbrev left : tie.After-undo-mesh-arg12 → tie.Else1
+left c = c .before .before .before .before .before .before .before .before .before .before .before .before
 
-abbrev worked : tie.After-clear-eleven2 → tie.After-undo-mesh
+abbrev worked : tie.After-clear-nine2 → tie.After-undo-mesh
 worked c =
     c .before .before .before .before .before .before .before .before .before .before .before .before .before
     .before .before .before .before .before .before .before .before .before .before .before .before .before .before
-    .before .before .before .before .before .before .before .before .before .before .before .before .before
+    .before .before .before .before .before .before .before
 
-abbrev end : tie.After-slice-known50 → tie.After-clear-eleven2
+abbrev end : tie.After-slice-known42 → tie.After-clear-nine2
 end c =
     c .before .before .before .before .before .before .before .before .before .before .before .before .before
-    .before .before .before .before .before .before .before .before .before
+    .before .before .before .before .before
 
 -- the first clearing before the second
-abbrev first : tie.After-clear-eleven2 → tie.After-clear-eleven
+abbrev first : tie.After-clear-nine2 → tie.After-clear-nine
 first c = cleared (left (worked c .before) .before)
 
--- ---- the eleven work buffers
+-- ---- the nine work buffers
 
 -- as they are lent, all but the first
 abbrev others : tie.Start → List (List ℕ)
 others s =
     let a = s .args in
     a .work2 .now ∷ a .work3 .now ∷ a .work4 .now ∷ a .work5 .now ∷ a .work6 .now ∷ a .work7 .now
-    ∷ a .work8 .now ∷ a .work9 .now ∷ a .work10 .now ∷ a .work11 .now ∷ []
+    ∷ a .work8 .now ∷ a .work9 .now ∷ []
 
 -- and with the first
 abbrev lent : tie.Start → List (List ℕ)
 lent s = s .args .work1 .now ∷ others s
 
 -- as they are first cleared
-abbrev zero-at-first : tie.After-clear-eleven → List (List ℕ)
-zero-at-first c = listed 11 (c .clear-eleven .last)
+abbrev zero-at-first : tie.After-clear-nine → List (List ℕ)
+zero-at-first c = listed 9 (c .clear-nine .last)
 
 -- as `undo_mesh` leaves them
 abbrev used : tie.After-undo-mesh → List (List ℕ)
-used c = listed 11 (c .undo-mesh .last .1 .1 .1 .1 .1 .1)
+used c = listed 9 (c .undo-mesh .last .1 .1 .1 .1 .1 .1)
 
 -- as they are at the end
-abbrev zero-at-end : tie.After-clear-eleven2 → List (List ℕ)
-zero-at-end c = listed 11 (c .clear-eleven2 .last)
+abbrev zero-at-end : tie.After-clear-nine2 → List (List ℕ)
+zero-at-end c = listed 9 (c .clear-nine2 .last)
 
 -- they are as long when they are first cleared
-as-long-at-first : (c : tie.After-clear-eleven) → map length (zero-at-first c) ≡ map length (lent (entry (judged c)))
-as-long-at-first c = cleared-lengths (lent (entry (judged c))) (zero-at-first c) (c .clear-eleven .ensures)
+as-long-at-first : (c : tie.After-clear-nine) → map length (zero-at-first c) ≡ map length (lent (entry (judged c)))
+as-long-at-first c = cleared-lengths (lent (entry (judged c))) (zero-at-first c) (c .clear-nine .ensures)
 
 -- at the end they are zero
-all-zero : (c : tie.After-clear-eleven2) → zero-at-end c ≡ map zeros (lent (entry (judged (first c))))
+all-zero : (c : tie.After-clear-nine2) → zero-at-end c ≡ map zeros (lent (entry (judged (first c))))
 all-zero c =
     let f = first c in
     let w = worked c in
-    cleared-again (lent (entry (judged f))) (zero-at-first f) (used w) (zero-at-end c) (f .clear-eleven .ensures)
+    cleared-again (lent (entry (judged f))) (zero-at-first f) (used w) (zero-at-end c) (f .clear-nine .ensures)
     (alike-equal (map length (used w)) (map length (zero-at-first f)) (w .undo-mesh .kept .1 .1 .1 .1 .1 .1))
-    (c .clear-eleven2 .ensures)
+    (c .clear-nine2 .ensures)
 
 -- so they are as long
-as-long-at-end : (c : tie.After-clear-eleven2)
+as-long-at-end : (c : tie.After-clear-nine2)
     → map length (zero-at-end c) ≡ map length (lent (entry (judged (first c))))
 as-long-at-end c = cleared-lengths (lent (entry (judged (first c)))) (zero-at-end c) (all-zero c)
 
@@ -102,21 +100,21 @@ checks : (c : tie.After-judge-undo-one-size)
     (c .judge-undo-one-size .result)
 checks c = record {
   checked = record {
-    least-length = c .before .shortest-of-eleven .result;
-    shortest = c .before .shortest-of-eleven .ensures;
+    least-length = c .before .shortest-of-nine .result;
+    shortest = c .before .shortest-of-nine .ensures;
     verdict = c .judge-undo-one-size .ensures;
     above = omega arith;
   };
 }
 
-shortest-of-eleven-requires : tie.Need-shortest-of-eleven-requires
-shortest-of-eleven-requires c κs = search needs
+shortest-of-nine-requires : tie.Need-shortest-of-nine-requires
+shortest-of-nine-requires c κs = search needs
 
 judge-undo-one-size-requires : tie.Need-judge-undo-one-size-requires
 judge-undo-one-size-requires c κs = search needs
 
-clear-eleven-requires : tie.Need-clear-eleven-requires
-clear-eleven-requires c κs = search needs
+clear-nine-requires : tie.Need-clear-nine-requires
+clear-nine-requires c κs = search needs
 
 refused-one-requires : tie.Need-refused-one-requires
 refused-one-requires c κs = search needs
@@ -148,17 +146,11 @@ same-length-8 c = ap (λ lengths. at lengths 7) (as-long-at-first (cleared (c .b
 same-length-9 : tie.Need-same-length-9
 same-length-9 c = ap (λ lengths. at lengths 8) (as-long-at-first (cleared (c .before .before)))
 
-same-length-10 : tie.Need-same-length-10
-same-length-10 c = ap (λ lengths. at lengths 9) (as-long-at-first (cleared (c .before .before)))
-
-same-length-11 : tie.Need-same-length-11
-same-length-11 c = ap (λ lengths. at lengths 10) (as-long-at-first (cleared (c .before .before)))
-
 returns : tie.Need-returns
 returns c =
     let f = cleared (c .before .before) in
     undo-refused (checks (judged f)) {works′ = zero-at-first f} (c .before .if1 .taken) (c .refused-one .ensures)
-    (f .clear-eleven .ensures)
+    (f .clear-nine .ensures)
 
 undo-mesh-requires : tie.Need-undo-mesh-requires
 undo-mesh-requires c κs =
@@ -166,50 +158,44 @@ undo-mesh-requires c κs =
     let f = cleared (l .before) in
     undo-lent (checks (judged f)) (l .if1 .left) (zero-at-first f) (as-long-at-first f)
 
-clear-eleven-requires-2 : tie.Need-clear-eleven-requires-2
-clear-eleven-requires-2 c κs = search needs
+clear-nine-requires-2 : tie.Need-clear-nine-requires-2
+clear-nine-requires-2 c κs = search needs
+
+same-length-10 : tie.Need-same-length-10
+same-length-10 c = worked (end c) .undo-mesh .kept .1 .1 .1 .0
+
+same-length-11 : tie.Need-same-length-11
+same-length-11 c = worked (end c) .undo-mesh .kept .1 .1 .1 .1 .0
 
 same-length-12 : tie.Need-same-length-12
-same-length-12 c = worked (end c) .undo-mesh .kept .1 .1 .1 .0
+same-length-12 c = worked (end c) .undo-mesh .kept .1 .1 .1 .1 .1 .0
 
 same-length-13 : tie.Need-same-length-13
-same-length-13 c = worked (end c) .undo-mesh .kept .1 .1 .1 .1 .0
+same-length-13 c = ap (λ lengths. at lengths 0) (as-long-at-end (end c))
 
 same-length-14 : tie.Need-same-length-14
-same-length-14 c = worked (end c) .undo-mesh .kept .1 .1 .1 .1 .1 .0
+same-length-14 c = ap (λ lengths. at lengths 1) (as-long-at-end (end c))
 
 same-length-15 : tie.Need-same-length-15
-same-length-15 c = ap (λ lengths. at lengths 0) (as-long-at-end (end c))
+same-length-15 c = ap (λ lengths. at lengths 2) (as-long-at-end (end c))
 
 same-length-16 : tie.Need-same-length-16
-same-length-16 c = ap (λ lengths. at lengths 1) (as-long-at-end (end c))
+same-length-16 c = ap (λ lengths. at lengths 3) (as-long-at-end (end c))
 
 same-length-17 : tie.Need-same-length-17
-same-length-17 c = ap (λ lengths. at lengths 2) (as-long-at-end (end c))
+same-length-17 c = ap (λ lengths. at lengths 4) (as-long-at-end (end c))
 
 same-length-18 : tie.Need-same-length-18
-same-length-18 c = ap (λ lengths. at lengths 3) (as-long-at-end (end c))
+same-length-18 c = ap (λ lengths. at lengths 5) (as-long-at-end (end c))
 
 same-length-19 : tie.Need-same-length-19
-same-length-19 c = ap (λ lengths. at lengths 4) (as-long-at-end (end c))
+same-length-19 c = ap (λ lengths. at lengths 6) (as-long-at-end (end c))
 
 same-length-20 : tie.Need-same-length-20
-same-length-20 c = ap (λ lengths. at lengths 5) (as-long-at-end (end c))
+same-length-20 c = ap (λ lengths. at lengths 7) (as-long-at-end (end c))
 
 same-length-21 : tie.Need-same-length-21
-same-length-21 c = ap (λ lengths. at lengths 6) (as-long-at-end (end c))
-
-same-length-22 : tie.Need-same-length-22
-same-length-22 c = ap (λ lengths. at lengths 7) (as-long-at-end (end c))
-
-same-length-23 : tie.Need-same-length-23
-same-length-23 c = ap (λ lengths. at lengths 8) (as-long-at-end (end c))
-
-same-length-24 : tie.Need-same-length-24
-same-length-24 c = ap (λ lengths. at lengths 9) (as-long-at-end (end c))
-
-same-length-25 : tie.Need-same-length-25
-same-length-25 c = ap (λ lengths. at lengths 10) (as-long-at-end (end c))
+same-length-21 c = ap (λ lengths. at lengths 8) (as-long-at-end (end c))
 
 returns-2 : tie.Need-returns-2
 returns-2 c =
@@ -222,9 +208,9 @@ pub flatcarol-undo-one-spec : {M : Type 1} → statement M
 flatcarol-undo-one-spec =
     tie.close
     (tie.spec
-    shortest-of-eleven-requires
+    shortest-of-nine-requires
     judge-undo-one-size-requires
-    clear-eleven-requires
+    clear-nine-requires
     refused-one-requires
     same-length
     same-length-2
@@ -235,11 +221,11 @@ flatcarol-undo-one-spec =
     same-length-7
     same-length-8
     same-length-9
-    same-length-10
-    same-length-11
     returns
     undo-mesh-requires
-    clear-eleven-requires-2
+    clear-nine-requires-2
+    same-length-10
+    same-length-11
     same-length-12
     same-length-13
     same-length-14
@@ -250,8 +236,4 @@ flatcarol-undo-one-spec =
     same-length-19
     same-length-20
     same-length-21
-    same-length-22
-    same-length-23
-    same-length-24
-    same-length-25
     returns-2)

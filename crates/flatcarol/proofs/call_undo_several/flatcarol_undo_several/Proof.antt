@@ -17,77 +17,75 @@ use Rattle.flatcarol.proofs.call_undo_several.flatcarol_undo_several.Ti
 
 abbrev entry : tie.After-judge-undo-several-size → tie.Start
 entry c =
-    c .before .before .before .before .before .before .before .before .before .before .before .before .before .before
-    .before .before
-
-abbrev judged : tie.After-clear-twelve → tie.After-judge-undo-several-size
-judged c =
     c .before .before .before .before .before .before .before .before .before .before .before .before .before
+    .before
 
-abbrev cleared : tie.After-slice-known25 → tie.After-clear-twelve
+abbrev judged : tie.After-clear-ten → tie.After-judge-undo-several-size
+judged c = c .before .before .before .before .before .before .before .before .before .before .before
+
+abbrev cleared : tie.After-slice-known21 → tie.After-clear-ten
 cleared c =
-    c .before .before .before .before .before .before .before .before .before .before .before .before .before .before
-    .before .before .before .before .before .before .before .before .before .before
-
-abbrev left : tie.After-undo-mesh-levels-arg13 → tie.Else1
-left c =
     c .before .before .before .before .before .before .before .before .before .before .before .before .before
+    .before .before .before .before .before .before .before
 
-abbrev worked : tie.After-clear-twelve2 → tie.After-undo-mesh-levels
+abbrev left : tie.After-undo-mesh-levels-arg11 → tie.Else1
+left c = c .before .before .before .before .before .before .before .before .before .before .before
+
+abbrev worked : tie.After-clear-ten2 → tie.After-undo-mesh-levels
 worked c =
-    c .before .before .before .before .before .before .before .before .before .before .before .before .before .before
+    c .before .before .before .before .before .before .before .before .before .before .before .before .before
     .before .before .before .before .before .before .before .before .before .before .before .before .before .before
-    .before .before .before .before .before .before .before .before .before .before .before
+    .before .before .before .before .before .before
 
-abbrev end : tie.After-slice-known50 → tie.After-clear-twelve2
+abbrev end : tie.After-slice-known42 → tie.After-clear-ten2
 end c =
-    c .before .before .before .before .before .before .before .before .before .before .before .before .before .before
-    .before .before .before .before .before .before .before .before .before .before
+    c .before .before .before .before .before .before .before .before .before .before .before .before .before
+    .before .before .before .before .before .before .before
 
 -- the first clearing before the second
-abbrev first : tie.After-clear-twelve2 → tie.After-clear-twelve
+abbrev first : tie.After-clear-ten2 → tie.After-clear-ten
 first c = cleared (left (worked c .before) .before)
 
--- ---- the twelve work buffers
+-- ---- the ten work buffers
 
 -- as they are lent, all but the first
 abbrev others : tie.Start → List (List ℕ)
 others s =
     let a = s .args in
     a .work2 .now ∷ a .work3 .now ∷ a .work4 .now ∷ a .work5 .now ∷ a .work6 .now ∷ a .work7 .now
-    ∷ a .work8 .now ∷ a .work9 .now ∷ a .work10 .now ∷ a .work11 .now ∷ a .work12 .now ∷ []
+    ∷ a .work8 .now ∷ a .work9 .now ∷ a .work10 .now ∷ []
 
 -- and with the first
 abbrev lent : tie.Start → List (List ℕ)
 lent s = s .args .work1 .now ∷ others s
 
 -- as they are first cleared
-abbrev zero-at-first : tie.After-clear-twelve → List (List ℕ)
-zero-at-first c = listed 12 (c .clear-twelve .last)
+abbrev zero-at-first : tie.After-clear-ten → List (List ℕ)
+zero-at-first c = listed 10 (c .clear-ten .last)
 
 -- as `undo_mesh_levels` leaves them
 abbrev used : tie.After-undo-mesh-levels → List (List ℕ)
-used c = listed 12 (c .undo-mesh-levels .last .1 .1 .1 .1)
+used c = listed 10 (c .undo-mesh-levels .last .1 .1 .1 .1)
 
 -- as they are at the end
-abbrev zero-at-end : tie.After-clear-twelve2 → List (List ℕ)
-zero-at-end c = listed 12 (c .clear-twelve2 .last)
+abbrev zero-at-end : tie.After-clear-ten2 → List (List ℕ)
+zero-at-end c = listed 10 (c .clear-ten2 .last)
 
 -- they are as long when they are first cleared
-as-long-at-first : (c : tie.After-clear-twelve) → map length (zero-at-first c) ≡ map length (lent (entry (judged c)))
-as-long-at-first c = cleared-lengths (lent (entry (judged c))) (zero-at-first c) (c .clear-twelve .ensures)
+as-long-at-first : (c : tie.After-clear-ten) → map length (zero-at-first c) ≡ map length (lent (entry (judged c)))
+as-long-at-first c = cleared-lengths (lent (entry (judged c))) (zero-at-first c) (c .clear-ten .ensures)
 
 -- at the end they are zero
-all-zero : (c : tie.After-clear-twelve2) → zero-at-end c ≡ map zeros (lent (entry (judged (first c))))
+all-zero : (c : tie.After-clear-ten2) → zero-at-end c ≡ map zeros (lent (entry (judged (first c))))
 all-zero c =
     let f = first c in
     let w = worked c in
-    cleared-again (lent (entry (judged f))) (zero-at-first f) (used w) (zero-at-end c) (f .clear-twelve .ensures)
+    cleared-again (lent (entry (judged f))) (zero-at-first f) (used w) (zero-at-end c) (f .clear-ten .ensures)
     (alike-equal (map length (used w)) (map length (zero-at-first f)) (w .undo-mesh-levels .kept .1 .1 .1 .1))
-    (c .clear-twelve2 .ensures)
+    (c .clear-ten2 .ensures)
 
 -- so they are as long
-as-long-at-end : (c : tie.After-clear-twelve2)
+as-long-at-end : (c : tie.After-clear-ten2)
     → map length (zero-at-end c) ≡ map length (lent (entry (judged (first c))))
 as-long-at-end c = cleared-lengths (lent (entry (judged (first c)))) (zero-at-end c) (all-zero c)
 
@@ -100,21 +98,21 @@ checks : (c : tie.After-judge-undo-several-size)
     (c .judge-undo-several-size .result)
 checks c = record {
   checked = record {
-    least-length = c .before .shortest-of-twelve .result;
-    shortest = c .before .shortest-of-twelve .ensures;
+    least-length = c .before .shortest-of-ten .result;
+    shortest = c .before .shortest-of-ten .ensures;
     verdict = c .judge-undo-several-size .ensures;
     above = omega arith;
   };
 }
 
-shortest-of-twelve-requires : tie.Need-shortest-of-twelve-requires
-shortest-of-twelve-requires c κs = search needs
+shortest-of-ten-requires : tie.Need-shortest-of-ten-requires
+shortest-of-ten-requires c κs = search needs
 
 judge-undo-several-size-requires : tie.Need-judge-undo-several-size-requires
 judge-undo-several-size-requires c κs = search needs
 
-clear-twelve-requires : tie.Need-clear-twelve-requires
-clear-twelve-requires c κs = search needs
+clear-ten-requires : tie.Need-clear-ten-requires
+clear-ten-requires c κs = search needs
 
 refused-several-requires : tie.Need-refused-several-requires
 refused-several-requires c κs = search needs
@@ -149,17 +147,11 @@ same-length-9 c = ap (λ lengths. at lengths 8) (as-long-at-first (cleared (c .b
 same-length-10 : tie.Need-same-length-10
 same-length-10 c = ap (λ lengths. at lengths 9) (as-long-at-first (cleared (c .before .before)))
 
-same-length-11 : tie.Need-same-length-11
-same-length-11 c = ap (λ lengths. at lengths 10) (as-long-at-first (cleared (c .before .before)))
-
-same-length-12 : tie.Need-same-length-12
-same-length-12 c = ap (λ lengths. at lengths 11) (as-long-at-first (cleared (c .before .before)))
-
 returns : tie.Need-returns
 returns c =
     let f = cleared (c .before .before) in
     several-refused (checks (judged f)) {works′ = zero-at-first f} (c .before .if1 .taken)
-    (c .refused-several .ensures) (f .clear-twelve .ensures)
+    (c .refused-several .ensures) (f .clear-ten .ensures)
 
 undo-mesh-levels-requires : tie.Need-undo-mesh-levels-requires
 undo-mesh-levels-requires c κs =
@@ -167,47 +159,41 @@ undo-mesh-levels-requires c κs =
     let f = cleared (l .before) in
     several-lent (checks (judged f)) (l .if1 .left) (zero-at-first f) (as-long-at-first f)
 
-clear-twelve-requires-2 : tie.Need-clear-twelve-requires-2
-clear-twelve-requires-2 c κs = search needs
+clear-ten-requires-2 : tie.Need-clear-ten-requires-2
+clear-ten-requires-2 c κs = search needs
+
+same-length-11 : tie.Need-same-length-11
+same-length-11 c = worked (end c) .undo-mesh-levels .kept .1 .1 .1 .0
+
+same-length-12 : tie.Need-same-length-12
+same-length-12 c = ap (λ lengths. at lengths 0) (as-long-at-end (end c))
 
 same-length-13 : tie.Need-same-length-13
-same-length-13 c = worked (end c) .undo-mesh-levels .kept .1 .1 .1 .0
+same-length-13 c = ap (λ lengths. at lengths 1) (as-long-at-end (end c))
 
 same-length-14 : tie.Need-same-length-14
-same-length-14 c = ap (λ lengths. at lengths 0) (as-long-at-end (end c))
+same-length-14 c = ap (λ lengths. at lengths 2) (as-long-at-end (end c))
 
 same-length-15 : tie.Need-same-length-15
-same-length-15 c = ap (λ lengths. at lengths 1) (as-long-at-end (end c))
+same-length-15 c = ap (λ lengths. at lengths 3) (as-long-at-end (end c))
 
 same-length-16 : tie.Need-same-length-16
-same-length-16 c = ap (λ lengths. at lengths 2) (as-long-at-end (end c))
+same-length-16 c = ap (λ lengths. at lengths 4) (as-long-at-end (end c))
 
 same-length-17 : tie.Need-same-length-17
-same-length-17 c = ap (λ lengths. at lengths 3) (as-long-at-end (end c))
+same-length-17 c = ap (λ lengths. at lengths 5) (as-long-at-end (end c))
 
 same-length-18 : tie.Need-same-length-18
-same-length-18 c = ap (λ lengths. at lengths 4) (as-long-at-end (end c))
+same-length-18 c = ap (λ lengths. at lengths 6) (as-long-at-end (end c))
 
 same-length-19 : tie.Need-same-length-19
-same-length-19 c = ap (λ lengths. at lengths 5) (as-long-at-end (end c))
+same-length-19 c = ap (λ lengths. at lengths 7) (as-long-at-end (end c))
 
 same-length-20 : tie.Need-same-length-20
-same-length-20 c = ap (λ lengths. at lengths 6) (as-long-at-end (end c))
+same-length-20 c = ap (λ lengths. at lengths 8) (as-long-at-end (end c))
 
 same-length-21 : tie.Need-same-length-21
-same-length-21 c = ap (λ lengths. at lengths 7) (as-long-at-end (end c))
-
-same-length-22 : tie.Need-same-length-22
-same-length-22 c = ap (λ lengths. at lengths 8) (as-long-at-end (end c))
-
-same-length-23 : tie.Need-same-length-23
-same-length-23 c = ap (λ lengths. at lengths 9) (as-long-at-end (end c))
-
-same-length-24 : tie.Need-same-length-24
-same-length-24 c = ap (λ lengths. at lengths 10) (as-long-at-end (end c))
-
-same-length-25 : tie.Need-same-length-25
-same-length-25 c = ap (λ lengths. at lengths 11) (as-long-at-end (end c))
+same-length-21 c = ap (λ lengths. at lengths 9) (as-long-at-end (end c))
 
 returns-2 : tie.Need-returns-2
 returns-2 c =
@@ -220,9 +206,9 @@ pub flatcarol-undo-several-spec : {M : Type 1} → statement M
 flatcarol-undo-several-spec =
     tie.close
     (tie.spec
-    shortest-of-twelve-requires
+    shortest-of-ten-requires
     judge-undo-several-size-requires
-    clear-twelve-requires
+    clear-ten-requires
     refused-several-requires
     same-length
     same-length-2
@@ -234,11 +220,11 @@ flatcarol-undo-several-spec =
     same-length-8
     same-length-9
     same-length-10
-    same-length-11
-    same-length-12
     returns
     undo-mesh-levels-requires
-    clear-twelve-requires-2
+    clear-ten-requires-2
+    same-length-11
+    same-length-12
     same-length-13
     same-length-14
     same-length-15
@@ -248,8 +234,4 @@ flatcarol-undo-several-spec =
     same-length-19
     same-length-20
     same-length-21
-    same-length-22
-    same-length-23
-    same-length-24
-    same-length-25
     returns-2)

@@ -2,7 +2,6 @@
 -- levels are undone from a copy of the list. Every slice keeps its length.
 use native.Mathlib.Omega.{arith}
 use mathlib.Core.Path.{refl, _∙_}
-use borrow.Author.Needs.{needs}
 use Rattle.theory.specs.Refusals.{meshRules, Passed}
 use Rattle.limits.proofs.Judgement.{judged-passed}
 use Rattle.parts.proofs.Rooms.{Buffers, SameLengths, kept-on, judgeable}
@@ -16,14 +15,12 @@ use Rattle.parts.proofs.undo_several_part.undo_mesh_levels.Tie as tie
 -- the function's start
 abbrev entry : tie.After-judge → tie.Start
 entry c =
-    c .before .before .before .before .before .before .before .before .before .before .before .before .before .before
-    .before .before .before .before .before .before .before .before
+    c .before .before .before .before .before .before .before .before .before .before .before .before .before
+    .before .before .before .before .before
 
 -- the judgement
 abbrev judging : tie.After-struct-known → tie.After-judge
-judging c =
-    c .before .before .before .before .before .before .before .before .before .before .before .before .before .before
-    .before
+judging c = c .before .before .before .before .before .before .before .before .before .before .before
 
 -- the judgement before the copy
 abbrev judged : tie.After-copy → tie.After-judge
@@ -32,25 +29,23 @@ judged p = judging (p .before .before .before)
 -- the copy
 abbrev copying : tie.After-undo-levels → tie.After-copy
 copying c =
-    c .before .before .before .before .before .before .before .before .before .before .before .before .before .before
-    .before .before
+    c .before .before .before .before .before .before .before .before .before .before .before .before .before
+    .before
 
 -- the levels
 abbrev undoing : tie.After-accepted-several → tie.After-undo-levels
 undoing c =
-    c .before .before .before .before .before .before .before .before .before .before .before .before .before .before
-    .before .before .before .before .before .before .before .before .before .before .before .before .before
+    c .before .before .before .before .before .before .before .before .before .before .before .before .before
+    .before .before .before .before .before .before .before .before .before .before
 
 -- ---- the work buffers
 
 -- as they are lent
 abbrev lent : tie.Start → Buffers
 lent s = record {
-  mate = s .args .mate .now;
+  other = s .args .other .now;
   rows = s .args .rows .now;
-  first = s .args .first .now;
-  link = s .args .link .now;
-  owner = s .args .owner .now;
+  ring = s .args .ring .now;
   marks = s .args .marks .now;
   coarse = s .args .coarse .now;
   numbers = s .args .numbers .now;
@@ -62,65 +57,57 @@ lent s = record {
 -- after the judgement
 abbrev afterJudge : tie.After-judge → Buffers
 afterJudge j = record {
-  mate = lent (entry j) .mate;
+  other = lent (entry j) .other;
   rows = lent (entry j) .rows;
-  first = j .judge .last .1 .1 .1 .1 .1 .0;
-  link = j .judge .last .1 .1 .1 .1 .0;
-  owner = lent (entry j) .owner;
-  marks = j .judge .last .1 .1 .1 .0;
-  coarse = j .judge .last .1 .1 .1 .1 .1 .1 .0;
-  numbers = j .judge .last .1 .1 .1 .1 .1 .1 .1 .0;
-  map = j .judge .last .1 .1 .1 .1 .1 .1 .1 .1 .0;
+  ring = j .judge .last .1 .1 .1 .0;
+  marks = j .judge .last .1 .1 .1 .1 .0;
+  coarse = j .judge .last .1 .1 .1 .1 .1 .0;
+  numbers = j .judge .last .1 .1 .1 .1 .1 .1 .0;
+  map = j .judge .last .1 .1 .1 .1 .1 .1 .1 .0;
   faces = lent (entry j) .faces;
-  table = j .judge .last .1 .1 .1 .1 .1 .1 .1 .1 .1 .0;
+  table = lent (entry j) .table;
 }
 
 -- after the levels
 abbrev afterLevels : tie.After-undo-levels → Buffers
 afterLevels u = record {
-  mate = u .undo-levels .last .1 .1 .1 .1 .1 .1 .0;
+  other = u .undo-levels .last .1 .1 .1 .1 .1 .1 .0;
   rows = u .undo-levels .last .1 .1 .1 .1 .1 .1 .1 .0;
-  first = u .undo-levels .last .1 .1 .1 .1 .1 .1 .1 .1 .0;
-  link = u .undo-levels .last .1 .1 .1 .1 .1 .1 .1 .1 .1 .0;
-  owner = u .undo-levels .last .1 .1 .1 .1 .1 .1 .1 .1 .1 .1 .0;
-  marks = u .undo-levels .last .1 .1 .1 .1 .1 .1 .1 .1 .1 .1 .1 .0;
+  ring = u .undo-levels .last .1 .1 .1 .1 .1 .1 .1 .1 .0;
+  marks = u .undo-levels .last .1 .1 .1 .1 .1 .1 .1 .1 .1 .0;
   coarse = u .undo-levels .last .1 .1 .1 .1 .0;
-  numbers = u .undo-levels .last .1 .1 .1 .1 .1 .1 .1 .1 .1 .1 .1 .1 .0;
-  map = u .undo-levels .last .1 .1 .1 .1 .1 .1 .1 .1 .1 .1 .1 .1 .1 .0;
-  faces = u .undo-levels .last .1 .1 .1 .1 .1 .1 .1 .1 .1 .1 .1 .1 .1 .1 .0;
-  table = u .undo-levels .last .1 .1 .1 .1 .1 .1 .1 .1 .1 .1 .1 .1 .1 .1 .1 .0;
+  numbers = u .undo-levels .last .1 .1 .1 .1 .1 .1 .1 .1 .1 .1 .0;
+  map = u .undo-levels .last .1 .1 .1 .1 .1 .1 .1 .1 .1 .1 .1 .0;
+  faces = u .undo-levels .last .1 .1 .1 .1 .1 .1 .1 .1 .1 .1 .1 .1 .0;
+  table = u .undo-levels .last .1 .1 .1 .1 .1 .1 .1 .1 .1 .1 .1 .1 .1 .0;
 }
 
 -- the judgement keeps their lengths
 judge-kept : (j : tie.After-judge) → SameLengths (lent (entry j)) (afterJudge j)
 judge-kept j = record {
-  mate = refl;
+  other = refl;
   rows = refl;
-  first = j .judge .kept .1 .1 .1 .1 .1 .0;
-  link = j .judge .kept .1 .1 .1 .1 .0;
-  owner = refl;
-  marks = j .judge .kept .1 .1 .1 .0;
-  coarse = j .judge .kept .1 .1 .1 .1 .1 .1 .0;
-  numbers = j .judge .kept .1 .1 .1 .1 .1 .1 .1 .0;
-  map = j .judge .kept .1 .1 .1 .1 .1 .1 .1 .1 .0;
+  ring = j .judge .kept .1 .1 .1 .0;
+  marks = j .judge .kept .1 .1 .1 .1 .0;
+  coarse = j .judge .kept .1 .1 .1 .1 .1 .0;
+  numbers = j .judge .kept .1 .1 .1 .1 .1 .1 .0;
+  map = j .judge .kept .1 .1 .1 .1 .1 .1 .1 .0;
   faces = refl;
-  table = j .judge .kept .1 .1 .1 .1 .1 .1 .1 .1 .1 .0;
+  table = refl;
 }
 
 -- so do the levels
 levels-kept : (u : tie.After-undo-levels) → SameLengths (lent (entry (judged (copying u)))) (afterLevels u)
 levels-kept u = kept-on (judge-kept (judged (copying u))) (record {
-  mate = u .undo-levels .kept .1 .1 .1 .1 .1 .1 .0;
+  other = u .undo-levels .kept .1 .1 .1 .1 .1 .1 .0;
   rows = u .undo-levels .kept .1 .1 .1 .1 .1 .1 .1 .0;
-  first = u .undo-levels .kept .1 .1 .1 .1 .1 .1 .1 .1 .0;
-  link = u .undo-levels .kept .1 .1 .1 .1 .1 .1 .1 .1 .1 .0;
-  owner = u .undo-levels .kept .1 .1 .1 .1 .1 .1 .1 .1 .1 .1 .0;
-  marks = u .undo-levels .kept .1 .1 .1 .1 .1 .1 .1 .1 .1 .1 .1 .0;
+  ring = u .undo-levels .kept .1 .1 .1 .1 .1 .1 .1 .1 .0;
+  marks = u .undo-levels .kept .1 .1 .1 .1 .1 .1 .1 .1 .1 .0;
   coarse = u .undo-levels .kept .1 .1 .1 .1 .0;
-  numbers = u .undo-levels .kept .1 .1 .1 .1 .1 .1 .1 .1 .1 .1 .1 .1 .0;
-  map = u .undo-levels .kept .1 .1 .1 .1 .1 .1 .1 .1 .1 .1 .1 .1 .1 .0;
-  faces = u .undo-levels .kept .1 .1 .1 .1 .1 .1 .1 .1 .1 .1 .1 .1 .1 .1 .0;
-  table = u .undo-levels .kept .1 .1 .1 .1 .1 .1 .1 .1 .1 .1 .1 .1 .1 .1 .1 .0;
+  numbers = u .undo-levels .kept .1 .1 .1 .1 .1 .1 .1 .1 .1 .1 .0;
+  map = u .undo-levels .kept .1 .1 .1 .1 .1 .1 .1 .1 .1 .1 .1 .0;
+  faces = u .undo-levels .kept .1 .1 .1 .1 .1 .1 .1 .1 .1 .1 .1 .1 .0;
+  table = u .undo-levels .kept .1 .1 .1 .1 .1 .1 .1 .1 .1 .1 .1 .1 .1 .0;
 })
 
 -- ---- what holds at each place
@@ -142,34 +129,27 @@ still-enough j = enough-kept (judge-kept j) (enough-lent (lent (entry j)) (entry
 
 judge-requires : tie.Need-judge-requires
 judge-requires c κs =
-    let s =
-    c .before .before .before .before .before .before .before .before .before .before .before .before .before .before
-    .before .before .before .before .before .before .before in
+    let s = c .before .before .before .before .before .before .before .before .before .before .before .before
+    .before .before .before .before .before in
     judgeable (enough-lent (lent s) (s .pre) .housed)
 
 refused-several-requires : tie.Need-refused-several-requires
-refused-several-requires c κs = search needs
+refused-several-requires c κs = tt
 
 same-length : tie.Need-same-length
-same-length c = search needs
+same-length c = judge-kept (judging (c .before .before)) .coarse
 
 same-length-2 : tie.Need-same-length-2
-same-length-2 c = search needs
+same-length-2 c = judge-kept (judging (c .before .before)) .ring
 
 same-length-3 : tie.Need-same-length-3
-same-length-3 c = search needs
+same-length-3 c = judge-kept (judging (c .before .before)) .marks
 
 same-length-4 : tie.Need-same-length-4
-same-length-4 c = search needs
+same-length-4 c = judge-kept (judging (c .before .before)) .numbers
 
 same-length-5 : tie.Need-same-length-5
-same-length-5 c = search needs
-
-same-length-6 : tie.Need-same-length-6
-same-length-6 c = search needs
-
-same-length-7 : tie.Need-same-length-7
-same-length-7 c = search needs
+same-length-5 c = judge-kept (judging (c .before .before)) .map
 
 returns : tie.Need-returns
 returns c =
@@ -177,64 +157,57 @@ returns c =
     refusing (j .judge .ensures) (c .before .if1 .taken) (c .refused-several .ensures)
 
 mul-copy : tie.Need-mul-copy
-mul-copy c = search needs
+mul-copy c = omega (arith, still-enough (judging (c .before .before)) .housed .few)
 
 copy-requires : tie.Need-copy-requires
 copy-requires c κs = list-copied (still-enough (judging (c .before .before)))
 
 undo-levels-requires : tie.Need-undo-levels-requires
 undo-levels-requires c κs =
-    let p =
-    c .before .before .before .before .before .before .before .before .before .before .before .before .before .before
+    let p = c .before .before .before .before .before .before .before .before .before .before .before .before
     .before in
     let l = p .before .before in
     let j = judged p in
     levels-lent (still-enough j) (p .copy .ensures) (p .copy .kept .1 .0) (passed l)
-    (j .judge .ensures .table (l .if1 .left))
+    (j .judge .ensures .ringed (l .if1 .left))
 
 accepted-several-requires : tie.Need-accepted-several-requires
-accepted-several-requires c κs = search needs
+accepted-several-requires c κs = tt
 
-same-length-8 : tie.Need-same-length-8
-same-length-8 c = search needs
+same-length-6 : tie.Need-same-length-6
+same-length-6 c = undoing c .undo-levels .kept .1 .1 .1 .1 .1 .0
 
-same-length-9 : tie.Need-same-length-9
-same-length-9 c =
+same-length-7 : tie.Need-same-length-7
+same-length-7 c =
     let u = undoing c in
     u .undo-levels .kept .1 .1 .1 .0 ∙ copying u .copy .kept .1 .0
 
+same-length-8 : tie.Need-same-length-8
+same-length-8 c = levels-kept (undoing c) .coarse
+
+same-length-9 : tie.Need-same-length-9
+same-length-9 c = levels-kept (undoing c) .other
+
 same-length-10 : tie.Need-same-length-10
-same-length-10 c = levels-kept (undoing c) .coarse
+same-length-10 c = levels-kept (undoing c) .rows
 
 same-length-11 : tie.Need-same-length-11
-same-length-11 c = levels-kept (undoing c) .mate
+same-length-11 c = levels-kept (undoing c) .ring
 
 same-length-12 : tie.Need-same-length-12
-same-length-12 c = levels-kept (undoing c) .rows
+same-length-12 c = levels-kept (undoing c) .marks
 
 same-length-13 : tie.Need-same-length-13
-same-length-13 c = levels-kept (undoing c) .first
+same-length-13 c = levels-kept (undoing c) .numbers
 
 same-length-14 : tie.Need-same-length-14
-same-length-14 c = levels-kept (undoing c) .link
+same-length-14 c = levels-kept (undoing c) .map
 
 same-length-15 : tie.Need-same-length-15
-same-length-15 c = levels-kept (undoing c) .owner
+same-length-15 c = levels-kept (undoing c) .faces
 
 same-length-16 : tie.Need-same-length-16
-same-length-16 c = levels-kept (undoing c) .marks
-
-same-length-17 : tie.Need-same-length-17
-same-length-17 c = levels-kept (undoing c) .numbers
-
-same-length-18 : tie.Need-same-length-18
-same-length-18 c = levels-kept (undoing c) .map
-
-same-length-19 : tie.Need-same-length-19
-same-length-19 c = levels-kept (undoing c) .faces
-
-same-length-20 : tie.Need-same-length-20
-same-length-20 c = levels-kept (undoing c) .table
+same-length-16 c = levels-kept (undoing c) .table
 
 returns-2 : tie.Need-returns-2
 returns-2 c =
@@ -254,13 +227,13 @@ undo-mesh-levels-spec =
     same-length-3
     same-length-4
     same-length-5
-    same-length-6
-    same-length-7
     returns
     mul-copy
     copy-requires
     undo-levels-requires
     accepted-several-requires
+    same-length-6
+    same-length-7
     same-length-8
     same-length-9
     same-length-10
@@ -270,8 +243,4 @@ undo-mesh-levels-spec =
     same-length-14
     same-length-15
     same-length-16
-    same-length-17
-    same-length-18
-    same-length-19
-    same-length-20
     returns-2)

@@ -7,7 +7,7 @@ use Rattle.tiles.proofs.claims.claim.Tie as tie
 
 -- where the function begins
 abbrev start : tie.Else1 → tie.Start
-start c = c .before .before .before .before .before .before
+start c = c .before .before .before .before .before
 
 mul-if1 : tie.Need-mul-if1
 mul-if1 c = search needs

@@ -2,7 +2,7 @@
 -- the four of each marked one stand at the place of its rank. The measure is what is left of the triangles.
 use native.Mathlib.Omega.{arith}
 use native.Mathlib.Nat.{add-zero}
-use Prim.Native.Nat.{ℕ, zero, suc, _+_, _-_, _*_, _%_, _≤_, _<_}
+use Prim.Native.Nat.{ℕ, zero, suc, _+_, _-_, _*_, _/_, _%_, _≤_, _<_}
 use mathlib.Core.Path.{_≡_, _∙_, refl}
 use mathlib.Core.Logic.{_≢_}
 use mathlib.Core.List.{List}
@@ -18,40 +18,39 @@ use Rattle.tiles.proofs.Runs.{stored-length, Placed, placed-none, place
 use Rattle.tiles.proofs.claims.claims.Statement.{statement}
 use Rattle.tiles.proofs.claims.claims.Tie as tie
 
-record Turn (F : ℕ) (marks mate owner out₀ out : List ℕ) (total k : ℕ) : Type 0 where
-  lent : ClaimsLent F marks mate owner out₀
+record Turn (F : ℕ) (marks other out₀ out : List ℕ) (total k : ℕ) : Type 0 where
+  lent : ClaimsLent F marks other out₀
   within : k ≤ F
   long : length out ≡ length out₀
   all : total ≡ count (marked marks) k
-  placed : Placed 4 marks (claimsOf mate owner) k out
+  placed : Placed 4 marks (claimsOf other) k out
 
 -- at first nothing is claimed
-begun : {F : ℕ} {marks mate owner out : List ℕ} → ClaimsLent F marks mate owner out
-    → Turn F marks mate owner out out 0 0
+begun : {F : ℕ} {marks other out : List ℕ} → ClaimsLent F marks other out
+    → Turn F marks other out out 0 0
 unfolding count
 begun L = record { lent = L; within = omega arith; long = refl; all = refl; placed = placed-none }
 
 -- a triangle claims four
-claimsOf-length : (mate owner : List ℕ) (k : ℕ) → length (claimsOf mate owner k) ≡ 4
+claimsOf-length : (other : List ℕ) (k : ℕ) → length (claimsOf other k) ≡ 4
 unfolding claimsOf
-claimsOf-length mate owner k = refl
+claimsOf-length other k = refl
 
 -- first itself
-claimsOf-centre : (mate owner : List ℕ) (k : ℕ) → at (claimsOf mate owner k) 0 ≡ k
+claimsOf-centre : (other : List ℕ) (k : ℕ) → at (claimsOf other k) 0 ≡ k
 unfolding claimsOf
-claimsOf-centre mate owner k = refl
+claimsOf-centre other k = refl
 
 -- then for each corner the triangle across the edge that ends there
-claimsOf-corner : (mate owner : List ℕ) (k i : ℕ) → i < 3
-    → at (claimsOf mate owner k) (suc i) ≡ at owner (at mate (3 * k + (i + 2) % 3))
+claimsOf-corner : (other : List ℕ) (k i : ℕ) → i < 3
+    → at (claimsOf other k) (suc i) ≡ at other (3 * k + (i + 2) % 3) / 3
 unfolding claimsOf
-claimsOf-corner mate owner k zero b = refl
-claimsOf-corner mate owner k (suc zero) b = rw (add-zero (3 * k))
-claimsOf-corner mate owner k (suc (suc zero)) b = refl
-claimsOf-corner mate owner k (suc (suc (suc i))) b = absurd (omega arith)
+claimsOf-corner other k zero b = refl
+claimsOf-corner other k (suc zero) b = rw (add-zero (3 * k))
+claimsOf-corner other k (suc (suc zero)) b = refl
+claimsOf-corner other k (suc (suc (suc i))) b = absurd (omega arith)
 
-module _ {F : ℕ} {marks mate owner out₀ out : List ℕ} {total k : ℕ}
-    (I : Turn F marks mate owner out₀ out total k) where
+module _ {F : ℕ} {marks other out₀ out : List ℕ} {total k : ℕ} (I : Turn F marks other out₀ out total k) where
   module _ (l : k < F) (ne : at marks k ≢ 0) where
     -- behind a marked triangle there is room
     four-room : 4 * count (marked marks) k + 4 ≤ length out
@@ -59,56 +58,49 @@ module _ {F : ℕ} {marks mate owner out₀ out : List ℕ} {total k : ℕ}
         let more = count-grows (marked marks) k F l (marked-entry marks k ne) in
         omega (arith, I .lent .quarter, I .lent .outRoom, I .long)
 
-    -- the mates of its half-edges are half-edges
-    mate-inside : (h : ℕ) → 3 * k ≤ h → h < 3 * k + 3 → at mate h < 3 * F
-    mate-inside h a b =
-        let e : 3 * k + (h - 3 * k) ≡ h = omega arith in
-        rw e at (I .lent .mated k (h - 3 * k) l (marked-entry marks k ne) (omega arith))
-
     -- so its four can be claimed
-    four-lendable : FourLent k total mate owner out
+    four-lendable : FourLent k total other out
     four-lendable =
         record {
           small = omega (arith, I .lent .small);
-          mateRoom = omega (arith, I .lent .mateRoom);
-          mated = λ h a b. omega (arith, mate-inside h a b, I .lent .ownerRoom);
+          otherRoom = omega (arith, I .lent .otherRoom);
           outRoom = omega (arith, four-room, I .all);
         }
 
   -- what `claim` requires
-  lendable : k < F → ClaimLent k total marks mate owner out
+  lendable : k < F → ClaimLent k total marks other out
   lendable l = record { marksRoom = omega (arith, I .lent .marksRoom); four = four-lendable l }
 
   -- the four of triangle k are claimed, if it is marked
-  turned : {total′ : ℕ} {out′ : List ℕ} → k < F → Counted (at marks k) 4 total (claimsOf mate owner k) out total′ out′
-      → Turn F marks mate owner out₀ out′ total′ (k + 1)
+  turned : {total′ : ℕ} {out′ : List ℕ} → k < F → Counted (at marks k) 4 total (claimsOf other k) out total′ out′
+      → Turn F marks other out₀ out′ total′ (k + 1)
   turned l C =
       record {
         lent = I .lent;
         within = omega arith;
         long = stored-length (C .stores) ∙ I .long;
         all = C .all ∙ rw (I .all) (count-marked marks k);
-        placed = placed-more (I .placed) (claimsOf-length mate owner k) (rw (I .all)) (four-room l) (C .stores);
+        placed = placed-more (I .placed) (claimsOf-length other k) (rw (I .all)) (four-room l) (C .stores);
       }
 
   -- at F all are claimed
-  finished : F ≤ k → Claimed F marks mate owner out
+  finished : F ≤ k → Claimed F marks other out
   finished l =
       record {
         centre = λ j b m.
-            rw add-zero at (I .placed .entry j 0 (omega arith) m (omega arith)) ∙ claimsOf-centre mate owner j;
+            rw add-zero at (I .placed .entry j 0 (omega arith) m (omega arith)) ∙ claimsOf-centre other j;
         corner = λ j i b m s.
-            I .placed .entry j (suc i) (omega arith) m (omega arith) ∙ claimsOf-corner mate owner j i s;
+            I .placed .entry j (suc i) (omega arith) m (omega arith) ∙ claimsOf-corner other j i s;
       }
 
 abbrev Inv-loop : tie.InvT-loop
-Inv-loop triangles marks mate owner out₀ count₀ k₀ out count k = Turn triangles marks mate owner out₀ out count k
+Inv-loop triangles marks other out₀ count₀ k₀ out count k = Turn triangles marks other out₀ out count k
 
 abbrev μ-loop : tie.MeasureT-loop
-μ-loop triangles marks mate owner out₀ count₀ k₀ out count k = triangles - k
+μ-loop triangles marks other out₀ count₀ k₀ out count k = triangles - k
 
 loop-holds : tie.Need-loop-holds Inv-loop μ-loop
-loop-holds c = begun (c .before .before .before .before .pre)
+loop-holds c = begun (c .before .before .before .pre)
 
 claim-requires : tie.Need-claim-requires Inv-loop μ-loop
 claim-requires c κs = lendable (c .before .before .loop .inv) (c .before .loop-test .taken)

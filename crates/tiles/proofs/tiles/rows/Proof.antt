@@ -11,29 +11,29 @@ use Rattle.tiles.specs.Tiles.{RowOf, tile, flat, RowsOf, RowsLent, RowLe
 use Rattle.tiles.proofs.tiles.rows.Statement.{statement}
 use Rattle.tiles.proofs.tiles.rows.Tie as tie
 
-record Turn (F : ℕ) (mate thirds rows₀ rows : List ℕ) (k : ℕ) : Type 0 where
-  lent : RowsLent F mate thirds rows₀
+record Turn (F : ℕ) (other thirds rows₀ rows : List ℕ) (k : ℕ) : Type 0 where
+  lent : RowsLent F other thirds rows₀
   within : k ≤ F
   long : length rows ≡ length rows₀
-  done : (j : ℕ) → j < k → RowOf F mate thirds j rows
+  done : (j : ℕ) → j < k → RowOf F other thirds j rows
 
 -- no row is written at first
-begun : {F : ℕ} {mate thirds rows : List ℕ} → RowsLent F mate thirds rows → Turn F mate thirds rows rows 0
+begun : {F : ℕ} {other thirds rows : List ℕ} → RowsLent F other thirds rows → Turn F other thirds rows rows 0
 begun L = record { lent = L; within = omega arith; long = refl; done = λ j l. absurd (omega arith) }
 
 -- another row is as it was
-carried : {F : ℕ} {mate thirds rows rows′ : List ℕ} {k j : ℕ} → RowSet F mate thirds k rows rows′ → j ≢ k
-    → RowOf F mate thirds j rows → RowOf F mate thirds j rows′
+carried : {F : ℕ} {other thirds rows rows′ : List ℕ} {k j : ℕ} → RowSet F other thirds k rows rows′ → j ≢ k
+    → RowOf F other thirds j rows → RowOf F other thirds j rows′
 carried {j = j} S n (tile H e) = tile H (λ i b. S .rest (3 * j + i) (omega arith) ∙ e i b)
 carried {j = j} S n (flat none e) = flat none (λ i b. S .rest (3 * j + i) (omega arith) ∙ e i b)
 
-module _ {F : ℕ} {mate thirds rows₀ rows : List ℕ} {k : ℕ} (T : Turn F mate thirds rows₀ rows k) where
+module _ {F : ℕ} {other thirds rows₀ rows : List ℕ} {k : ℕ} (T : Turn F other thirds rows₀ rows k) where
   -- what `row` requires
-  lendable : k < F → RowLent k F mate thirds rows
+  lendable : k < F → RowLent k F other thirds rows
   lendable l =
       record {
         lent = record {
-          mateRoom = T .lent .mateRoom;
+          otherRoom = T .lent .otherRoom;
           thirdsRoom = T .lent .thirdsRoom;
           rowsRoom = omega (arith, T .lent .rowsRoom);
         };
@@ -41,8 +41,8 @@ module _ {F : ℕ} {mate thirds rows₀ rows : List ℕ} {k : ℕ} (T : Turn F m
       }
 
   -- row k is written
-  turned : {rows′ : List ℕ} → k < F → length rows′ ≡ length rows → RowSet F mate thirds k rows rows′
-      → Turn F mate thirds rows₀ rows′ (k + 1)
+  turned : {rows′ : List ℕ} → k < F → length rows′ ≡ length rows → RowSet F other thirds k rows rows′
+      → Turn F other thirds rows₀ rows′ (k + 1)
   turned l e S =
       record {
         lent = T .lent;
@@ -52,14 +52,14 @@ module _ {F : ℕ} {mate thirds rows₀ rows : List ℕ} {k : ℕ} (T : Turn F m
       }
 
   -- at F all are
-  finished : F ≤ k → RowsOf F mate thirds rows
+  finished : F ≤ k → RowsOf F other thirds rows
   finished l = record { row = λ j b. T .done j (omega arith) }
 
 abbrev Inv-loop : tie.InvT-loop
-Inv-loop triangles mate thirds rows₀ k₀ rows k = Turn triangles mate thirds rows₀ rows k
+Inv-loop triangles other thirds rows₀ k₀ rows k = Turn triangles other thirds rows₀ rows k
 
 abbrev μ-loop : tie.MeasureT-loop
-μ-loop triangles mate thirds rows₀ k₀ rows k = triangles - k
+μ-loop triangles other thirds rows₀ k₀ rows k = triangles - k
 
 loop-holds : tie.Need-loop-holds Inv-loop μ-loop
 loop-holds c = begun (c .before .before .before .pre)

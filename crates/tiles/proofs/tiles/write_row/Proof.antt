@@ -4,7 +4,7 @@ use native.Mathlib.Omega.{arith}
 use mathlib.Core.Path.{_≡_}
 use mathlib.Core.Bool.{Bool, false}
 use borrow.Author.Needs.{needs}
-use Rattle.mesh.specs.Faults.{TwoEqual, HasEqual}
+use Rattle.faults.specs.Faults.{TwoEqual, HasEqual}
 use Rattle.tiles.specs.Tiles.{different, equal}
 use Rattle.tiles.proofs.tiles.write_row.Statement.{statement}
 use Rattle.tiles.proofs.tiles.write_row.Tie as tie

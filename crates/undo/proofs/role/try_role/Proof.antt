@@ -16,7 +16,7 @@ use Rattle.undo.proofs.role.try_role.Tie as tie
 abbrev entry : tie.After-find-tiles → tie.Start
 entry c =
     c .before .before .before .before .before .before .before .before .before .before .before .before
-    .before .before .before .before .before
+    .before .before .before
 
 -- the call that finds the tiles
 abbrev finding : tie.After-slice-known10 → tie.After-find-tiles
@@ -76,42 +76,50 @@ mapping₅ a = mapping₄ (matching₅ a)
 
 -- ---- lengths
 
+-- the buffer of the vertex map is as long as it was, when the tiles are numbered
+map-numbered : (g : tie.After-number-tiles)
+    → length (g .number-tiles .last .1 .1 .1 .1 .1 .1 .1 .1 .0) ≡ length (entry (finding₂ g) .args .map .now)
+map-numbered g =
+    g .number-tiles .kept .1 .1 .1 .1 .1 .1 .1 .1 .0 ∙ finding₂ g .find-tiles .kept .1 .1 .1 .1 .1 .1 .1 .0
+
+-- so is the table
+table-numbered : (g : tie.After-number-tiles)
+    → length (g .number-tiles .last .1 .1 .1 .1 .1 .1 .1 .1 .1 .0) ≡ length (entry (finding₂ g) .args .table .now)
+table-numbered g =
+    g .number-tiles .kept .1 .1 .1 .1 .1 .1 .1 .1 .1 .0 ∙ finding₂ g .find-tiles .kept .1 .1 .1 .1 .1 .1 .1 .1 .0
+
 -- the vertex map is as long as it was
 map-long : (v : tie.After-map-vertices)
     → length (v .map-vertices .last .1 .1 .1 .1 .1 .1 .1 .0) ≡ length (entry (finding₃ v) .args .map .now)
-map-long v =
-    v .map-vertices .kept .1 .1 .1 .1 .1 .1 .1 .0 ∙ numbering₃ v .number-tiles .kept .1 .1 .1 .1 .1 .1 .1 .1 .1 .0
-    ∙ finding₃ v .find-tiles .kept .1 .1 .1 .1 .1 .1 .1 .1 .1 .0
+map-long v = v .map-vertices .kept .1 .1 .1 .1 .1 .1 .1 .0 ∙ map-numbered (numbering₃ v)
 
 -- so is the table
 table-long : (v : tie.After-map-vertices)
     → length (v .map-vertices .last .1 .1 .1 .1 .1 .1 .1 .1 .0) ≡ length (entry (finding₃ v) .args .table .now)
-table-long v =
-    v .map-vertices .kept .1 .1 .1 .1 .1 .1 .1 .1 .0 ∙ numbering₃ v .number-tiles .kept .1 .1 .1 .1 .1 .1 .1 .1 .1 .1 .0
-    ∙ finding₃ v .find-tiles .kept .1 .1 .1 .1 .1 .1 .1 .1 .1 .1 .0
+table-long v = v .map-vertices .kept .1 .1 .1 .1 .1 .1 .1 .1 .0 ∙ table-numbered (numbering₃ v)
 
 -- ---- the answers
 
 find-tiles-requires : tie.Need-find-tiles-requires
 find-tiles-requires c κs =
     let s = c .before .before .before .before .before .before .before .before .before .before .before .before
-    .before .before .before .before in
+    .before .before in
     findable (s .pre)
 
 untried-requires : tie.Need-untried-requires
 untried-requires c κs = search needs
 
 same-length : tie.Need-same-length
-same-length c = search needs
+same-length c = finding (c .before .before) .find-tiles .kept .1 .1 .1 .1 .1 .0
 
 same-length-2 : tie.Need-same-length-2
-same-length-2 c = search needs
+same-length-2 c = finding (c .before .before) .find-tiles .kept .1 .1 .1 .1 .1 .1 .1 .0
 
 same-length-3 : tie.Need-same-length-3
-same-length-3 c = search needs
+same-length-3 c = finding (c .before .before) .find-tiles .kept .1 .1 .1 .1 .1 .1 .0
 
 same-length-4 : tie.Need-same-length-4
-same-length-4 c = search needs
+same-length-4 c = finding (c .before .before) .find-tiles .kept .1 .1 .1 .1 .1 .1 .1 .1 .0
 
 returns : tie.Need-returns
 returns c =
@@ -124,30 +132,30 @@ number-tiles-requires c κs =
     let f = finding (e .before) in
     let p = picked (entry f .pre) (f .find-tiles .ensures) (e .if1 .left) in
     numberable (entry f .pre) p
-    (rooms-kept (entry f .pre .rooms) (f .find-tiles .kept .1 .1 .1 .1 .1 .1 .1 .0) refl refl
-    (f .find-tiles .kept .1 .1 .1 .1 .1 .1 .1 .1 .1 .0) (f .find-tiles .kept .1 .1 .1 .1 .1 .1 .1 .1 .0)
-    (f .find-tiles .kept .1 .1 .1 .1 .1 .1 .1 .1 .1 .1 .0))
+    (rooms-kept (entry f .pre .rooms) (f .find-tiles .kept .1 .1 .1 .1 .1 .0) refl refl
+    (f .find-tiles .kept .1 .1 .1 .1 .1 .1 .1 .0) (f .find-tiles .kept .1 .1 .1 .1 .1 .1 .0)
+    (f .find-tiles .kept .1 .1 .1 .1 .1 .1 .1 .1 .0))
 
 untried-requires-2 : tie.Need-untried-requires-2
 untried-requires-2 c κs = search needs
 
 same-length-5 : tie.Need-same-length-5
-same-length-5 c = search needs
+same-length-5 c = finding₂ (numbering (c .before .before)) .find-tiles .kept .1 .1 .1 .1 .1 .0
 
 same-length-6 : tie.Need-same-length-6
-same-length-6 c = search needs
+same-length-6 c = numbering (c .before .before) .number-tiles .kept .1 .1 .1 .1 .1 .1 .0
 
 same-length-7 : tie.Need-same-length-7
-same-length-7 c = search needs
+same-length-7 c = numbering (c .before .before) .number-tiles .kept .1 .1 .1 .1 .1 .1 .1 .0
 
 same-length-8 : tie.Need-same-length-8
-same-length-8 c = search needs
+same-length-8 c = map-numbered (numbering (c .before .before))
 
 same-length-9 : tie.Need-same-length-9
-same-length-9 c = search needs
+same-length-9 c = finding₂ (numbering (c .before .before)) .find-tiles .kept .1 .1 .1 .1 .1 .1 .0
 
 same-length-10 : tie.Need-same-length-10
-same-length-10 c = search needs
+same-length-10 c = table-numbered (numbering (c .before .before))
 
 returns-2 : tie.Need-returns-2
 returns-2 c =
@@ -163,29 +171,27 @@ map-vertices-requires c κs =
     let f = finding₂ g in
     let p = picked (entry f .pre) (f .find-tiles .ensures) (left1 g .if1 .left) in
     mappable (entry f .pre) p
-    (rooms-kept (entry f .pre .rooms) (f .find-tiles .kept .1 .1 .1 .1 .1 .1 .1 .0)
-    (g .number-tiles .kept .1 .1 .1 .1 .1 .1 .1 .0) (g .number-tiles .kept .1 .1 .1 .1 .1 .1 .1 .1 .0)
-    (g .number-tiles .kept .1 .1 .1 .1 .1 .1 .1 .1 .1 .0 ∙ f .find-tiles .kept .1 .1 .1 .1 .1 .1 .1 .1 .1 .0)
-    (f .find-tiles .kept .1 .1 .1 .1 .1 .1 .1 .1 .0)
-    (g .number-tiles .kept .1 .1 .1 .1 .1 .1 .1 .1 .1 .1 .0 ∙ f .find-tiles .kept .1 .1 .1 .1 .1 .1 .1 .1 .1 .1 .0))
+    (rooms-kept (entry f .pre .rooms) (f .find-tiles .kept .1 .1 .1 .1 .1 .0)
+    (g .number-tiles .kept .1 .1 .1 .1 .1 .1 .0) (g .number-tiles .kept .1 .1 .1 .1 .1 .1 .1 .0)
+    (map-numbered g) (f .find-tiles .kept .1 .1 .1 .1 .1 .1 .0) (table-numbered g))
 
 untried-requires-3 : tie.Need-untried-requires-3
 untried-requires-3 c κs = search needs
 
 same-length-11 : tie.Need-same-length-11
-same-length-11 c = finding₃ (mapping (c .before .before)) .find-tiles .kept .1 .1 .1 .1 .1 .1 .1 .0
+same-length-11 c = finding₃ (mapping (c .before .before)) .find-tiles .kept .1 .1 .1 .1 .1 .0
 
 same-length-12 : tie.Need-same-length-12
-same-length-12 c = numbering₃ (mapping (c .before .before)) .number-tiles .kept .1 .1 .1 .1 .1 .1 .1 .0
+same-length-12 c = numbering₃ (mapping (c .before .before)) .number-tiles .kept .1 .1 .1 .1 .1 .1 .0
 
 same-length-13 : tie.Need-same-length-13
-same-length-13 c = numbering₃ (mapping (c .before .before)) .number-tiles .kept .1 .1 .1 .1 .1 .1 .1 .1 .0
+same-length-13 c = numbering₃ (mapping (c .before .before)) .number-tiles .kept .1 .1 .1 .1 .1 .1 .1 .0
 
 same-length-14 : tie.Need-same-length-14
 same-length-14 c = map-long (mapping (c .before .before))
 
 same-length-15 : tie.Need-same-length-15
-same-length-15 c = finding₃ (mapping (c .before .before)) .find-tiles .kept .1 .1 .1 .1 .1 .1 .1 .1 .0
+same-length-15 c = finding₃ (mapping (c .before .before)) .find-tiles .kept .1 .1 .1 .1 .1 .1 .0
 
 same-length-16 : tie.Need-same-length-16
 same-length-16 c = table-long (mapping (c .before .before))
@@ -207,36 +213,36 @@ map-triangles-requires c κs =
     let f = finding₂ g in
     let p = picked (entry f .pre) (f .find-tiles .ensures) (left1 g .if1 .left) in
     claimable (entry f .pre) p
-    (rooms-kept {coarse′ = g .number-tiles .last .1 .1 .1 .1 .1 .1 .1 .0}
-    {numbers′ = g .number-tiles .last .1 .1 .1 .1 .1 .1 .1 .1 .0}
+    (rooms-kept {coarse′ = g .number-tiles .last .1 .1 .1 .1 .1 .1 .0}
+    {numbers′ = g .number-tiles .last .1 .1 .1 .1 .1 .1 .1 .0}
     {map′ = v .map-vertices .last .1 .1 .1 .1 .1 .1 .1 .0}
-    (entry f .pre .rooms) (f .find-tiles .kept .1 .1 .1 .1 .1 .1 .1 .0)
-    (g .number-tiles .kept .1 .1 .1 .1 .1 .1 .1 .0) (g .number-tiles .kept .1 .1 .1 .1 .1 .1 .1 .1 .0)
-    (map-long v) (f .find-tiles .kept .1 .1 .1 .1 .1 .1 .1 .1 .0) (table-long v))
+    (entry f .pre .rooms) (f .find-tiles .kept .1 .1 .1 .1 .1 .0)
+    (g .number-tiles .kept .1 .1 .1 .1 .1 .1 .0) (g .number-tiles .kept .1 .1 .1 .1 .1 .1 .1 .0)
+    (map-long v) (f .find-tiles .kept .1 .1 .1 .1 .1 .1 .0) (table-long v))
 
 untried-requires-4 : tie.Need-untried-requires-4
 untried-requires-4 c κs = search needs
 
 same-length-17 : tie.Need-same-length-17
-same-length-17 c = finding₃ (mapping₄ (matching (c .before .before))) .find-tiles .kept .1 .1 .1 .1 .1 .1 .1 .0
+same-length-17 c = finding₃ (mapping₄ (matching (c .before .before))) .find-tiles .kept .1 .1 .1 .1 .1 .0
 
 same-length-18 : tie.Need-same-length-18
-same-length-18 c = numbering₃ (mapping₄ (matching (c .before .before))) .number-tiles .kept .1 .1 .1 .1 .1 .1 .1 .0
+same-length-18 c = numbering₃ (mapping₄ (matching (c .before .before))) .number-tiles .kept .1 .1 .1 .1 .1 .1 .0
 
 same-length-19 : tie.Need-same-length-19
-same-length-19 c = numbering₃ (mapping₄ (matching (c .before .before))) .number-tiles .kept .1 .1 .1 .1 .1 .1 .1 .1 .0
+same-length-19 c = numbering₃ (mapping₄ (matching (c .before .before))) .number-tiles .kept .1 .1 .1 .1 .1 .1 .1 .0
 
 same-length-20 : tie.Need-same-length-20
 same-length-20 c = map-long (mapping₄ (matching (c .before .before)))
 
 same-length-21 : tie.Need-same-length-21
 same-length-21 c =
-    matching (c .before .before) .map-triangles .kept .1 .1 .1 .1 .0
-    ∙ finding₃ (mapping₄ (matching (c .before .before))) .find-tiles .kept .1 .1 .1 .1 .1 .1 .1 .1 .0
+    matching (c .before .before) .map-triangles .kept .1 .1 .1 .0
+    ∙ finding₃ (mapping₄ (matching (c .before .before))) .find-tiles .kept .1 .1 .1 .1 .1 .1 .0
 
 same-length-22 : tie.Need-same-length-22
 same-length-22 c =
-    matching (c .before .before) .map-triangles .kept .1 .1 .1 .1 .1 .0
+    matching (c .before .before) .map-triangles .kept .1 .1 .1 .1 .0
     ∙ table-long (mapping₄ (matching (c .before .before)))
 
 returns-4 : tie.Need-returns-4
@@ -259,38 +265,38 @@ compare-all-requires c κs =
     let f = finding₂ g in
     let p = picked (entry f .pre) (f .find-tiles .ensures) (left1 g .if1 .left) in
     comparable (entry f .pre) p (g .number-tiles .ensures) (v .map-vertices .ensures) (t .map-triangles .ensures)
-    (rooms-kept {table′ = t .map-triangles .last .1 .1 .1 .1 .1 .0}
-    (entry f .pre .rooms) (f .find-tiles .kept .1 .1 .1 .1 .1 .1 .1 .0)
-    (g .number-tiles .kept .1 .1 .1 .1 .1 .1 .1 .0) (g .number-tiles .kept .1 .1 .1 .1 .1 .1 .1 .1 .0)
+    (rooms-kept {table′ = t .map-triangles .last .1 .1 .1 .1 .0}
+    (entry f .pre .rooms) (f .find-tiles .kept .1 .1 .1 .1 .1 .0)
+    (g .number-tiles .kept .1 .1 .1 .1 .1 .1 .0) (g .number-tiles .kept .1 .1 .1 .1 .1 .1 .1 .0)
     (map-long v)
-    (t .map-triangles .kept .1 .1 .1 .1 .0 ∙ f .find-tiles .kept .1 .1 .1 .1 .1 .1 .1 .1 .0)
-    (t .map-triangles .kept .1 .1 .1 .1 .1 .0 ∙ table-long v))
+    (t .map-triangles .kept .1 .1 .1 .0 ∙ f .find-tiles .kept .1 .1 .1 .1 .1 .1 .0)
+    (t .map-triangles .kept .1 .1 .1 .1 .0 ∙ table-long v))
     (not-false _ (e .if4 .left))
 
 untried-requires-5 : tie.Need-untried-requires-5
 untried-requires-5 c κs = search needs
 
 same-length-23 : tie.Need-same-length-23
-same-length-23 c = finding₃ (mapping₅ (comparing (c .before .before))) .find-tiles .kept .1 .1 .1 .1 .1 .1 .1 .0
+same-length-23 c = finding₃ (mapping₅ (comparing (c .before .before))) .find-tiles .kept .1 .1 .1 .1 .1 .0
 
 same-length-24 : tie.Need-same-length-24
-same-length-24 c = numbering₃ (mapping₅ (comparing (c .before .before))) .number-tiles .kept .1 .1 .1 .1 .1 .1 .1 .0
+same-length-24 c = numbering₃ (mapping₅ (comparing (c .before .before))) .number-tiles .kept .1 .1 .1 .1 .1 .1 .0
 
 same-length-25 : tie.Need-same-length-25
-same-length-25 c = numbering₃ (mapping₅ (comparing (c .before .before))) .number-tiles .kept .1 .1 .1 .1 .1 .1 .1 .1 .0
+same-length-25 c = numbering₃ (mapping₅ (comparing (c .before .before))) .number-tiles .kept .1 .1 .1 .1 .1 .1 .1 .0
 
 same-length-26 : tie.Need-same-length-26
 same-length-26 c = map-long (mapping₅ (comparing (c .before .before)))
 
 same-length-27 : tie.Need-same-length-27
 same-length-27 c =
-    matching₅ (comparing (c .before .before)) .map-triangles .kept .1 .1 .1 .1 .0
-    ∙ finding₃ (mapping₅ (comparing (c .before .before))) .find-tiles .kept .1 .1 .1 .1 .1 .1 .1 .1 .0
+    matching₅ (comparing (c .before .before)) .map-triangles .kept .1 .1 .1 .0
+    ∙ finding₃ (mapping₅ (comparing (c .before .before))) .find-tiles .kept .1 .1 .1 .1 .1 .1 .0
 
 same-length-28 : tie.Need-same-length-28
 same-length-28 c =
     comparing (c .before .before) .compare-all .kept .1 .1 .1 .1 .1 .1 .1 .0
-    ∙ matching₅ (comparing (c .before .before)) .map-triangles .kept .1 .1 .1 .1 .1 .0
+    ∙ matching₅ (comparing (c .before .before)) .map-triangles .kept .1 .1 .1 .1 .0
     ∙ table-long (mapping₅ (comparing (c .before .before)))
 
 returns-5 : tie.Need-returns-5
@@ -306,26 +312,26 @@ returns-5 c =
     (a .compare-all .ensures) (not-true _ (c .before .if5 .taken)))
 
 same-length-29 : tie.Need-same-length-29
-same-length-29 c = finding₃ (mapping₅ (comparing (c .before))) .find-tiles .kept .1 .1 .1 .1 .1 .1 .1 .0
+same-length-29 c = finding₃ (mapping₅ (comparing (c .before))) .find-tiles .kept .1 .1 .1 .1 .1 .0
 
 same-length-30 : tie.Need-same-length-30
-same-length-30 c = numbering₃ (mapping₅ (comparing (c .before))) .number-tiles .kept .1 .1 .1 .1 .1 .1 .1 .0
+same-length-30 c = numbering₃ (mapping₅ (comparing (c .before))) .number-tiles .kept .1 .1 .1 .1 .1 .1 .0
 
 same-length-31 : tie.Need-same-length-31
-same-length-31 c = numbering₃ (mapping₅ (comparing (c .before))) .number-tiles .kept .1 .1 .1 .1 .1 .1 .1 .1 .0
+same-length-31 c = numbering₃ (mapping₅ (comparing (c .before))) .number-tiles .kept .1 .1 .1 .1 .1 .1 .1 .0
 
 same-length-32 : tie.Need-same-length-32
 same-length-32 c = map-long (mapping₅ (comparing (c .before)))
 
 same-length-33 : tie.Need-same-length-33
 same-length-33 c =
-    matching₅ (comparing (c .before)) .map-triangles .kept .1 .1 .1 .1 .0
-    ∙ finding₃ (mapping₅ (comparing (c .before))) .find-tiles .kept .1 .1 .1 .1 .1 .1 .1 .1 .0
+    matching₅ (comparing (c .before)) .map-triangles .kept .1 .1 .1 .0
+    ∙ finding₃ (mapping₅ (comparing (c .before))) .find-tiles .kept .1 .1 .1 .1 .1 .1 .0
 
 same-length-34 : tie.Need-same-length-34
 same-length-34 c =
     comparing (c .before) .compare-all .kept .1 .1 .1 .1 .1 .1 .1 .0
-    ∙ matching₅ (comparing (c .before)) .map-triangles .kept .1 .1 .1 .1 .1 .0
+    ∙ matching₅ (comparing (c .before)) .map-triangles .kept .1 .1 .1 .1 .0
     ∙ table-long (mapping₅ (comparing (c .before)))
 
 returns-6 : tie.Need-returns-6
@@ -340,12 +346,12 @@ returns-6 c =
     (read (entry f .pre) p (g .number-tiles .ensures) (v .map-vertices .ensures) (t .map-triangles .ensures)
     (a .compare-all .ensures) (left2 v .if2 .left) (not-false _ (left3 t .if3 .left)) (not-false _ (left4 a .if4 .left))
     (not-false _ (c .if5 .left))
-    (rooms-kept {table′ = t .map-triangles .last .1 .1 .1 .1 .1 .0}
-    (entry f .pre .rooms) (f .find-tiles .kept .1 .1 .1 .1 .1 .1 .1 .0)
-    (g .number-tiles .kept .1 .1 .1 .1 .1 .1 .1 .0) (g .number-tiles .kept .1 .1 .1 .1 .1 .1 .1 .1 .0)
+    (rooms-kept {table′ = t .map-triangles .last .1 .1 .1 .1 .0}
+    (entry f .pre .rooms) (f .find-tiles .kept .1 .1 .1 .1 .1 .0)
+    (g .number-tiles .kept .1 .1 .1 .1 .1 .1 .0) (g .number-tiles .kept .1 .1 .1 .1 .1 .1 .1 .0)
     (map-long v)
-    (t .map-triangles .kept .1 .1 .1 .1 .0 ∙ f .find-tiles .kept .1 .1 .1 .1 .1 .1 .1 .1 .0)
-    (t .map-triangles .kept .1 .1 .1 .1 .1 .0 ∙ table-long v)))
+    (t .map-triangles .kept .1 .1 .1 .0 ∙ f .find-tiles .kept .1 .1 .1 .1 .1 .1 .0)
+    (t .map-triangles .kept .1 .1 .1 .1 .0 ∙ table-long v)))
 
 pub try-role-spec : {M : Type 1} → statement M
 try-role-spec =
