@@ -3,6 +3,9 @@ use borrow.Author.Needs.{needs}
 use Rattle.lent.proofs.work.clear_five.Statement.{statement}
 use Rattle.lent.proofs.work.clear_five.Tie as tie
 
+returns : tie.Need-returns
+returns c = cc
+
 clear-requires : tie.Need-clear-requires
 clear-requires c κs = search needs
 
@@ -32,9 +35,6 @@ same-length-4 c = search needs
 
 same-length-5 : tie.Need-same-length-5
 same-length-5 c = search needs
-
-returns : tie.Need-returns
-returns c = cc
 
 pub clear-five-spec : {M : Type 1} → statement M
 clear-five-spec =
