@@ -1,13 +1,12 @@
 // The call split.
-use lent::sizes::judge_split_size;
-use lent::work::clear_five;
-use lent::work::shortest_of_five;
-use parts::answers::Answer;
-use parts::answers::refused;
-use parts::split_part::split_mesh;
+use answers::answers::Answer;
+use calls_sizes::judge_split_size;
+use calls_split::split_mesh;
+use calls_work::clear_five;
+use calls_work::shortest_of_five;
 ghost use mathlib.Core.List.{[], _∷_};
 ghost use Rattle.theory.specs.Calls.{Splits};
-ghost use Rattle.parts.specs.Answers.{answerOf};
+ghost use Rattle.answers.specs.Answers.{answerOf};
 
 // Splits a mesh of `vertices` vertices, whose triangles are `list`, three corners each: every triangle becomes four,
 // in the first entries of `out`. Refusals 2 to 10.
@@ -37,12 +36,9 @@ pub extern "C" fn flatcarol_split(
         work5.len(),
     );
     let number = judge_split_size(vertices, list.len(), out.len(), work);
-    clear_five(work1, work2, work3, work4, work5);
-    if number != 0 {
-        return refused(number, 0);
-    }
     let answer = split_mesh(
-        vertices as usize,
+        number,
+        vertices,
         list,
         out,
         work1,

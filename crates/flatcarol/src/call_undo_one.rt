@@ -1,13 +1,12 @@
 // The call undo one.
-use lent::sizes::judge_undo_one_size;
-use lent::work::clear_nine;
-use lent::work::shortest_of_nine;
-use parts::answers::OneAnswer;
-use parts::answers::refused_one;
-use parts::undo_one_part::undo_mesh;
+use answers::answers::OneAnswer;
+use calls_sizes::judge_undo_one_size;
+use calls_undo_one::undo_mesh;
+use calls_work::clear_nine;
+use calls_work::shortest_of_nine;
 ghost use mathlib.Core.List.{[], _∷_};
 ghost use Rattle.theory.specs.Calls.{UndoesOne};
-ghost use Rattle.parts.specs.Answers.{oneAnswerOf, outputs};
+ghost use Rattle.answers.specs.Answers.{oneAnswerOf, outputs};
 
 // Undoes one split of a mesh of `vertices` vertices, whose triangles are `list`, three corners each, in the role asked
 // of triangle 0 (0 to 3), or in the least role that has a reading (4): the coarse mesh goes to the first entries of
@@ -62,24 +61,11 @@ pub extern "C" fn flatcarol_undo_one(
         triangle_map.len(),
         work,
     );
-    clear_nine(
-        work1,
-        work2,
-        work3,
-        work4,
-        work5,
-        work6,
-        work7,
-        work8,
-        work9,
-    );
-    if number != 0 {
-        return refused_one(number, 0);
-    }
     let answer = undo_mesh(
-        vertices as usize,
+        number,
+        vertices,
         list,
-        asked as usize,
+        asked,
         mesh,
         vertex_map,
         triangle_map,

@@ -1,13 +1,12 @@
 // The call undo several.
-use lent::sizes::judge_undo_several_size;
-use lent::work::clear_ten;
-use lent::work::shortest_of_ten;
-use parts::answers::SeveralAnswer;
-use parts::answers::refused_several;
-use parts::undo_several_part::undo_mesh_levels;
+use answers::answers::SeveralAnswer;
+use calls_sizes::judge_undo_several_size;
+use calls_undo_several::undo_mesh_levels;
+use calls_work::clear_ten;
+use calls_work::shortest_of_ten;
 ghost use mathlib.Core.List.{[], _∷_};
 ghost use Rattle.theory.specs.Calls.{UndoesSeveral};
-ghost use Rattle.parts.specs.Answers.{severalAnswerOf};
+ghost use Rattle.answers.specs.Answers.{severalAnswerOf};
 
 // Undoes up to `asked` splits, at most 7, of a mesh of `vertices` vertices, whose triangles are `list`, three corners
 // each, level by level, each in the least role that has a reading: the mesh that is left goes to the first entries of
@@ -51,23 +50,9 @@ pub extern "C" fn flatcarol_undo_several(
         work10.len(),
     );
     let number = judge_undo_several_size(vertices, list.len(), asked, out.len(), work);
-    clear_ten(
-        work1,
-        work2,
-        work3,
-        work4,
-        work5,
-        work6,
-        work7,
-        work8,
-        work9,
-        work10,
-    );
-    if number != 0 {
-        return refused_several(number, 0);
-    }
     let answer = undo_mesh_levels(
-        vertices as usize,
+        number,
+        vertices,
         list,
         asked,
         out,

@@ -1,11 +1,13 @@
--- The judgement by a list of rows: the first row is given, or it is not and the others judge; and of two lists in a
--- row the second judges where the first is passed.
-use Prim.Native.Nat.{ℕ, _<_, min}
+-- The judgement by a list of rows: the first row is given, or it is not and the others judge; of two lists one after
+-- the other the second judges where the first is passed; and the last row may be said in other words.
+use Prim.Native.Nat.{ℕ, _<_}
 use native.Mathlib.Omega.{arith}
 use mathlib.Core.Path.{_≡_, refl}
 use mathlib.Core.Logic.{_≢_, inl, inr}
 use mathlib.Core.List.{List, [], _∷_, _++_}
-use Rattle.theory.specs.Refusals.{Rule, LeastPlace, Passed, Refused}
+use Rattle.theory.specs.Refusals.{Rule, noPlace, LeastPlace, Passed, Refused}
+use Rattle.theory.proofs.Refusals.{at-place-0, leastNumber, refused-above, refused-by-front}
+use Rattle.theory.proofs.Refusals.{passed-either, refused-either}
 use Rattle.limits.specs.Judged.{Judged, passes, fails}
 
 -- ---- the first row
@@ -32,41 +34,37 @@ module _ {rule : Rule} {rules : List Rule} where
   judged-later none (passes p) = passes (none, p)
   judged-later none (fails f) = fails (inr (none, f))
 
--- ---- lists of rows
+module _ {number : ℕ} {condition : Type 0} {rules : List Rule} where
+  -- a row without a place whose condition holds is given at place 0
+  pub judged-at-0 : condition → Judged (record { number = number; given = noPlace condition } ∷ rules) number 0
+  judged-at-0 holds = judged-here (at-place-0 holds)
 
--- The least number of the rows, or 1 if there is none.
-abbrev pub leastNumber : List Rule → ℕ
-leastNumber [] = 1
-leastNumber (rule ∷ rules) = min (rule .number) (leastNumber rules)
+  -- and one whose condition does not hold leaves the judgement to the others
+  pub judged-not : {verdict place : ℕ} → (condition → ⊥) → Judged rules verdict place
+      → Judged (record { number = number; given = noPlace condition } ∷ rules) verdict place
+  judged-not not others = judged-later (λ p given. not (given .0)) others
 
--- rows whose numbers are above 0 refuse with a number above 0
-refused-above : (rules : List Rule) (number place : ℕ) → Refused rules number place → 0 < leastNumber rules
-    → 0 < number
-unfolding Refused
-refused-above [] number place f l = absurd f
-refused-above (rule ∷ rules) number place (inl (same, _)) l = omega arith
-refused-above (rule ∷ rules) number place (inr (_, f)) l = refused-above rules number place f (omega arith)
+-- ---- the verdict
 
--- so a verdict of 0 says that all are passed
+-- a verdict of 0 says that all rows are passed, where their numbers are above 0
 pub judged-passed : {rules : List Rule} {number place : ℕ} → Judged rules number place → number ≡ 0
     → 0 < leastNumber rules → Passed rules
 judged-passed (passes p) e l = p
 judged-passed {rules} {number} {place} (fails f) e l = absurd (omega (arith, refused-above rules number place f l))
 
--- what the first of two lists refuses, both refuse
-refused-front : (front back : List Rule) (number place : ℕ) → Refused front number place
-    → Refused (front ++ back) number place
-unfolding Refused
-refused-front [] back number place f = absurd f
-refused-front (rule ∷ rules) back number place (inl f) = inl f
-refused-front (rule ∷ rules) back number place (inr (none, f)) =
-    inr (none, refused-front rules back number place f)
+-- and a verdict other than 0 is a refusal
+pub judged-refused : {rules : List Rule} {number place : ℕ} → Judged rules number place → number ≢ 0
+    → Refused rules number place
+judged-refused (passes p) n = absurd (n refl)
+judged-refused (fails f) n = f
 
--- so a verdict other than 0 of the first is that of both
+-- ---- two lists of rows, one after the other
+
+-- a verdict other than 0 of the first is that of both
 pub judged-front : {front : List Rule} (back : List Rule) {number place : ℕ} → Judged front number place → number ≢ 0
     → Judged (front ++ back) number place
-judged-front back (passes p) n = absurd (n refl)
-judged-front {front} back {number} {place} (fails f) n = fails (refused-front front back number place f)
+judged-front {front} back {number} {place} verdict n =
+    fails (refused-by-front front back number place (judged-refused verdict n))
 
 -- and where the first is passed, the second judges
 pub judged-back : (front : List Rule) {back : List Rule} {number place : ℕ} → Passed front → Judged back number place
@@ -74,3 +72,13 @@ pub judged-back : (front : List Rule) {back : List Rule} {number place : ℕ} �
 unfolding Passed
 judged-back [] p verdict = verdict
 judged-back (rule ∷ rules) (none, p) verdict = judged-later none (judged-back rules p verdict)
+
+-- ---- the last row in other words
+
+-- a last row without a place may have another condition that holds exactly if this one does
+pub judged-either : (front : List Rule) (number : ℕ) {verdict place : ℕ} {one other : Type 0} → (one → other)
+    → (other → one) → Judged (front ++ (record { number = number; given = noPlace one } ∷ [])) verdict place
+    → Judged (front ++ (record { number = number; given = noPlace other } ∷ [])) verdict place
+judged-either front number there back (passes p) = passes (passed-either number there back [] front p)
+judged-either front number {verdict} {place} there back (fails f) =
+    fails (refused-either number there back [] front verdict place f)

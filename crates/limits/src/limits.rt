@@ -11,6 +11,10 @@ impl Limits {
     pub const VERTICES: u64 = 32_767;
     // The most levels that are undone in one call.
     pub const LEVELS: u64 = 7;
+    // The places for their roles in an answer.
+    pub const PLACES: usize = Limits::LEVELS as usize;
+    // What undo one is asked where any role will do: the most that it may be asked.
+    pub const ANY_ROLE: u64 = 4;
     // What the program has room for, and the most bytes that it reads.
     pub const PROGRAM_TRIANGLES: u64 = 1_024;
 

@@ -1,10 +1,18 @@
 // Refusals 1 to 4, and 5 of writing frames, which are judged from numbers alone.
 use super::limits::Limits;
+ghost use Prim.Native.Nat.{_/_};
 ghost use mathlib.Core.List.{[], _∷_};
-ghost use Rattle.theory.specs.Limits.{mostTriangles, mostSplitTriangles, mostLevels};
-ghost use Rattle.theory.specs.Refusals.{askedTooMuch, tooLarge};
-ghost use Rattle.limits.specs.Judged.{Judged, entriesNotThrees, sizeRules, writeNumberRules};
-ghost use Rattle.limits.specs.Judged.{writeSizeRules};
+ghost use Rattle.theory.specs.Limits.{mostTriangles, mostSplitTriangles, anyRole, mostLevels};
+ghost use Rattle.theory.specs.Refusals.{askedTooMuch, notThrees, tooLarge, sizeRules};
+ghost use Rattle.theory.specs.Frames.{writeRules};
+ghost use Rattle.limits.specs.Judged.{Judged};
+
+// 1 of a role asked; 0 where it is not given.
+pub fn judge_role(asked: u64) -> u64
+    ensures { λ r. ⌜ Judged (askedTooMuch anyRole asked ∷ []) r 0 ⌝ }
+{
+    judge_asked(Limits::ANY_ROLE, asked)
+}
 
 // 1 of a number of levels asked; 0 where it is not given.
 pub fn judge_levels(asked: u64) -> u64
@@ -14,7 +22,7 @@ pub fn judge_levels(asked: u64) -> u64
 }
 
 // The same of any number asked, where `most` is allowed.
-pub fn judge_asked(most: u64, asked: u64) -> u64
+fn judge_asked(most: u64, asked: u64) -> u64
     ensures { λ r. ⌜ Judged (askedTooMuch most asked ∷ []) r 0 ⌝ }
 {
     if most < asked {
@@ -54,7 +62,7 @@ fn judge_size(most: u64, vertices: u64, entries: usize) -> u64
 
 // 2 and 4 of a mesh to write as frames, which may have no triangle; 0 where none is given.
 fn judge_size_to_write(vertices: u64, entries: usize) -> u64
-    ensures { λ r. ⌜ Judged (writeNumberRules vertices entries) r 0 ⌝ }
+    ensures { λ r. ⌜ Judged (notThrees entries ∷ tooLarge mostTriangles vertices (entries / 3) ∷ []) r 0 ⌝ }
 {
     let number = judge_threes(entries);
     if number != 0 {
@@ -65,7 +73,7 @@ fn judge_size_to_write(vertices: u64, entries: usize) -> u64
 
 // 2, 4 and 5 of frames to write, of a list of so many entries, where `out` bytes are lent; 0 where none is given.
 pub fn judge_write_size(vertices: u64, entries: usize, out: usize) -> u64
-    ensures { λ r. ⌜ Judged (writeSizeRules vertices entries out) r 0 ⌝ }
+    ensures { λ r. ⌜ Judged (writeRules vertices entries out) r 0 ⌝ }
 {
     let number = judge_size_to_write(vertices, entries);
     if number != 0 {
@@ -79,7 +87,7 @@ pub fn judge_write_size(vertices: u64, entries: usize, out: usize) -> u64
 
 // 2 of a list of so many entries; 0 where it is not given.
 fn judge_threes(entries: usize) -> u64
-    ensures { λ r. ⌜ Judged (entriesNotThrees entries ∷ []) r 0 ⌝ }
+    ensures { λ r. ⌜ Judged (notThrees entries ∷ []) r 0 ⌝ }
 {
     if entries % 3 != 0 {
         return 2;

@@ -4,7 +4,7 @@ use Prim.Native.Nat.{ℕ, _+_, _≤_, _<_}
 use native.Mathlib.Omega.{arith}
 use mathlib.Core.Path.{_≡_, _∙_, refl, sym, ap}
 use mathlib.Core.Logic.{_≢_, _⊎_, inl, inr, ⊎-elim}
-use mathlib.Core.Bool.{Bool, true, false}
+use mathlib.Core.Bool.{true, false}
 use mathlib.Core.List.{List}
 use borrow.Author.Count.{below-more}
 use lib.ListN.{length, length-set, set}
@@ -68,10 +68,14 @@ module _ {value : ℕ → ℕ} {n : ℕ} {keys table₀ table : List ℕ} {p : �
 
 -- ---- values that are being compared with a table
 
+-- A table holds each of n values at its key.
+abbrev pub Held : (ℕ → ℕ) → ℕ → List ℕ → List ℕ → Type 0
+Held value n keys table = (p : ℕ) → p < n → at table (at keys p) ≡ value p
+
 -- The table holds the first p of n values at their keys.
 pub record Holding (value : ℕ → ℕ) (n : ℕ) (keys table : List ℕ) (p : ℕ) : Type 0 where
   pub within : p ≤ n
-  pub held : (q : ℕ) → q < p → at table (at keys q) ≡ value q
+  pub held : Held value p keys table
 
 -- at first nothing is asked of it
 pub holding-none : {value : ℕ → ℕ} {n : ℕ} {keys table : List ℕ} → Holding value n keys table 0
@@ -96,46 +100,33 @@ module _ {value : ℕ → ℕ} {n : ℕ} {keys table : List ℕ} {p : ℕ} where
         complete = λ all. absurd (ne (ap (at table) k ∙ all p l));
       }
 
--- ---- for callers
+-- ---- values that are scattered, where a map holds them at their keys
 
--- Values of equal keys are equal.
-pub record Agreeing (value : ℕ → ℕ) (n : ℕ) (keys : List ℕ) : Type 0 where
-  pub agree : (p q : ℕ) → p < n → q < n → at keys p ≡ at keys q → value p ≡ value q
-
-module _ {value : ℕ → ℕ} {n : ℕ} {keys : List ℕ} where
-  -- so it is where the values are a function of the keys
-  pub agreeing-function : (w : ℕ → ℕ) → ((p : ℕ) → p < n → value p ≡ w (at keys p)) → Agreeing value n keys
-  agreeing-function w f = record { agree = λ p q l b e. f p l ∙ ap w e ∙ sym (f q b) }
-
-  -- and where a table holds them
-  pub holds-agreeing : {table : List ℕ} {answer : Bool} → Holds value n keys table answer → answer ≡ true
-      → Agreeing value n keys
-  holds-agreeing {table} H t =
-      record { agree = λ p q l b e. sym (H .sound t p l) ∙ ap (at table) e ∙ H .sound t q b }
-
-module _ {value : ℕ → ℕ} {n : ℕ} {keys table table′ : List ℕ} (S : Scattered value n keys table table′) where
-  -- at a key stands a value of that key
-  pub scattered-key : (p : ℕ) → p < n
-      → (q : ℕ) × (q < n) × (at keys q ≡ at keys p) × (at table′ (at keys p) ≡ value q)
-  scattered-key p l = ⊎-elim (λ h. h) (λ h. absurd (h .0 p l refl)) (S .entry (at keys p))
-
-  -- every other entry is as it was
-  pub scattered-other : (v : ℕ) → ((p : ℕ) → p < n → at keys p ≢ v) → at table′ v ≡ at table v
-  scattered-other v none = ⊎-elim (λ h. absurd (none (h .0) (h .1) (h .2))) (λ h. h .1) (S .entry v)
-
-  -- where values of equal keys are equal, each stands at its key
-  pub scattered-agreeing : Agreeing value n keys → (p : ℕ) → p < n → at table′ (at keys p) ≡ value p
-  scattered-agreeing A p l = go (scattered-key p l)
+module _ (f : List ℕ) {value : ℕ → ℕ} {n : ℕ} {keys table table′ : List ℕ} (S : Scattered value n keys table table′)
+    (holds : Held value n keys f) where
+  -- at the keys the table comes to hold what the map does
+  pub scattered-hits : Held value n keys table′
+  scattered-hits p l = go (S .entry (at keys p))
     where
-      go : (q : ℕ) × (q < n) × (at keys q ≡ at keys p) × (at table′ (at keys p) ≡ value q)
+      go : ((q : ℕ) × (q < n) × (at keys q ≡ at keys p) × (at table′ (at keys p) ≡ value q))
+          ⊎ (((q : ℕ) → q < n → at keys q ≡ at keys p → ⊥) × (at table′ (at keys p) ≡ at table (at keys p)))
           → at table′ (at keys p) ≡ value p
-      go (q, b, k, e) = e ∙ A .agree q p b l k
+      go (inl (q, b, e, d)) = d ∙ sym (holds q b) ∙ ap (at f) e ∙ holds p l
+      go (inr (none, _)) = absurd (none p l refl)
 
-  -- so the table holds them
-  pub scattered-holds : Agreeing value n keys → {answer : Bool} → Holds value n keys table′ answer → answer ≡ true
-  scattered-holds A H = H .complete (scattered-agreeing A)
+  -- and where the table held it, it still does
+  scattered-keeps : (v : ℕ) → at table v ≡ at f v → at table′ v ≡ at f v
+  scattered-keeps v h = go (S .entry v)
+    where
+      go : ((q : ℕ) × (q < n) × (at keys q ≡ v) × (at table′ v ≡ value q))
+          ⊎ (((q : ℕ) → q < n → at keys q ≡ v → ⊥) × (at table′ v ≡ at table v))
+          → at table′ v ≡ at f v
+      go (inl (q, b, e, d)) = d ∙ sym (holds q b) ∙ ap (at f) e
+      go (inr (_, d)) = d ∙ h
 
-  -- where the values are a function of the keys, the table has its value at each key
-  pub scattered-function : (w : ℕ → ℕ) → ((p : ℕ) → p < n → value p ≡ w (at keys p))
-      → (p v : ℕ) → p < n → at keys p ≡ v → at table′ v ≡ w v
-  scattered-function w f p v l e = rw (← e) (scattered-agreeing (agreeing-function w f) p l ∙ f p l)
+-- after another scattering of what the map holds, the table holds the first values still
+pub scattered-twice : (f : List ℕ) {value value′ : ℕ → ℕ} {n n′ : ℕ} {keys keys′ table table′ table″ : List ℕ}
+    → Scattered value n keys table table′ → Held value n keys f
+    → Scattered value′ n′ keys′ table′ table″ → Held value′ n′ keys′ f → Held value n keys table″
+scattered-twice f {keys = keys} S holds S′ holds′ p l =
+    scattered-keeps f S′ holds′ (at keys p) (scattered-hits f S holds p l ∙ sym (holds p l)) ∙ holds p l

@@ -4,3 +4,4 @@ pub mod Stores
 pub mod Tables
 pub mod Marks
 pub mod Keys
+pub mod Decides

@@ -1,15 +1,15 @@
 -- Laws of lists of numbers, read by their entries: what stands at an index after a store, in a repetition, in a
 -- part, and in a list whose first entries were replaced (what `fill` and `copy` leave). Choices between numbers
 -- stand in front.
-use Prim.Native.Nat.{ℕ, _+_, _-_, _≤_, _<_}
+use Prim.Native.Nat.{ℕ, _≤_, _<_}
 use native.Mathlib.Decide.{ℕ-discrete, decLt}
 use native.Mathlib.Omega.{arith}
-use mathlib.Core.Path.{_≡_, ap, _∙_}
+use mathlib.Core.Path.{_≡_, _∙_}
 use mathlib.Core.Logic.{_≢_}
 use mathlib.Core.List.{List, _++_}
 use lib.ListN.{length, set, take, drop, replicate, length-append, length-drop, length-replicate, getD-replicate}
-use lib.ListN.{List·getD-append, List·getD-eq-default}
-use lib.Seq.{length-take-le, take-at, getD-set-same, getD-set-other, getD-take, getD-drop, getD-append-add}
+use lib.ListN.{List·getD-append}
+use lib.Seq.{length-take-le, take-at, getD-set-same, getD-set-other, getD-take}
 use Rattle.theory.specs.Mesh.{at}
 
 -- ---- choices
@@ -42,10 +42,6 @@ at-set P xs i v k l same other =
 
 -- ---- entries of a repetition and of parts
 
--- beyond the end stands 0
-pub at-outside : (xs : List ℕ) (k : ℕ) → length xs ≤ k → at xs k ≡ 0
-at-outside xs k l = List·getD-eq-default xs 0 l
-
 -- every entry of a repetition is the repeated value
 pub at-replicate : (n v k : ℕ) → k < n → at (replicate n v) k ≡ v
 at-replicate n v k l = getD-replicate n k v 0 l
@@ -54,19 +50,9 @@ at-replicate n v k l = getD-replicate n k v 0 l
 pub at-take : (n : ℕ) (xs : List ℕ) (k : ℕ) → k < n → at (take n xs) k ≡ at xs k
 at-take n xs k l = getD-take n xs k 0 l
 
--- without the first n entries, each entry stands n places before
-pub at-drop : (n : ℕ) (xs : List ℕ) (k : ℕ) → at (drop n xs) k ≡ at xs (n + k)
-at-drop n xs k = getD-drop n xs k 0
-
 -- the entries of the first of two lists put together
 pub at-append-left : (xs ys : List ℕ) (k : ℕ) → k < length xs → at (xs ++ ys) k ≡ at xs k
 at-append-left xs ys k l = List·getD-append xs ys 0 k l
-
--- the entries of the second one
-pub at-append-right : (xs ys : List ℕ) (k : ℕ) → length xs ≤ k → at (xs ++ ys) k ≡ at ys (k - length xs)
-at-append-right xs ys k l =
-    let e : k ≡ length xs + (k - length xs) = omega arith in
-    ap (at (xs ++ ys)) e ∙ getD-append-add xs ys (k - length xs) 0
 
 -- lists whose first n entries are the same list have the same entries there
 pub at-same-take : (n : ℕ) (xs ys : List ℕ) → take n xs ≡ ys → (k : ℕ) → k < n → at xs k ≡ at ys k
@@ -78,12 +64,6 @@ at-same-take n xs ys e k l = rw (← e, at-take n xs k l)
 pub at-front : (ps ys : List ℕ) (n k : ℕ) → length ps ≡ n → k < n → at (ps ++ drop n ys) k ≡ at ps k
 at-front ps ys n k e l = at-append-left ps (drop n ys) k (omega arith)
 
--- the entries behind them
-pub at-behind : (ps ys : List ℕ) (n k : ℕ) → length ps ≡ n → n ≤ k → at (ps ++ drop n ys) k ≡ at ys k
-at-behind ps ys n k e l =
-    let back : n + (k - length ps) ≡ k = omega arith in
-    at-append-right ps (drop n ys) k (omega arith) ∙ at-drop n ys (k - length ps) ∙ ap (at ys) back
-
 -- as many entries as before
 pub length-replaced : (ps ys : List ℕ) (n : ℕ) → length ps ≡ n → n ≤ length ys → length (ps ++ drop n ys) ≡ length ys
 length-replaced ps ys n e l = simp (length-append, length-drop) (omega arith)
@@ -91,10 +71,6 @@ length-replaced ps ys n e l = simp (length-append, length-drop) (omega arith)
 -- after `fill` the first n entries are the value
 pub at-filled : (n v : ℕ) (xs : List ℕ) (k : ℕ) → k < n → at (replicate n v ++ drop n xs) k ≡ v
 at-filled n v xs k l = at-front (replicate n v) xs n k (length-replicate n v) l ∙ at-replicate n v k l
-
--- and the others are as they were
-pub at-filled-behind : (n v : ℕ) (xs : List ℕ) (k : ℕ) → n ≤ k → at (replicate n v ++ drop n xs) k ≡ at xs k
-at-filled-behind n v xs k l = at-behind (replicate n v) xs n k (length-replicate n v) l
 
 -- `fill` keeps the length
 pub length-filled : (n v : ℕ) (xs : List ℕ) → n ≤ length xs → length (replicate n v ++ drop n xs) ≡ length xs
@@ -104,20 +80,6 @@ length-filled n v xs l = length-replaced (replicate n v) xs n (length-replicate 
 pub take-filled : (n v : ℕ) (xs : List ℕ) → take n (replicate n v ++ drop n xs) ≡ replicate n v
 take-filled n v xs = take-at (replicate n v) (drop n xs) n (length-replicate n v)
 
--- after `copy` the first n entries are those of the source
-pub at-copied : (n : ℕ) (xs ys : List ℕ) (k : ℕ) → n ≤ length xs → k < n → at (take n xs ++ drop n ys) k ≡ at xs k
-at-copied n xs ys k b l = at-front (take n xs) ys n k (length-take-le n xs b) l ∙ at-take n xs k l
-
--- and the others are as they were
-pub at-copied-behind : (n : ℕ) (xs ys : List ℕ) (k : ℕ) → n ≤ length xs → n ≤ k
-    → at (take n xs ++ drop n ys) k ≡ at ys k
-at-copied-behind n xs ys k b l = at-behind (take n xs) ys n k (length-take-le n xs b) l
-
 -- the first n entries after `copy`, as a list
 pub take-copied : (n : ℕ) (xs ys : List ℕ) → n ≤ length xs → take n (take n xs ++ drop n ys) ≡ take n xs
 take-copied n xs ys b = take-at (take n xs) (drop n ys) n (length-take-le n xs b)
-
--- `copy` keeps the length
-pub length-copied : (n : ℕ) (xs ys : List ℕ) → n ≤ length xs → n ≤ length ys
-    → length (take n xs ++ drop n ys) ≡ length ys
-length-copied n xs ys b l = length-replaced (take n xs) ys n (length-take-le n xs b) l

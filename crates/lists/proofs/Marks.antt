@@ -1,16 +1,15 @@
--- Laws of marked indices and their ranks: what a mark counts, and that the ranks number the marked indices, upward and
--- without gaps.
+-- Laws of marked indices and their ranks: what a mark counts, and what the ranks number.
 use Prim.Native.Nat.{ℕ, _+_, _≤_, _<_}
 use native.Mathlib.Numerals.{add-one}
-use native.Mathlib.Omega.{arith}
-use mathlib.Core.Path.{_≡_, _∙_, sym}
+use mathlib.Core.Path.{_≡_}
 use mathlib.Core.Logic.{_≢_}
 use mathlib.Core.List.{List}
 use borrow.Author.Tests.{eq-eqb, ne-eqb}
 use lib.Dec.{T}
 use Rattle.theory.specs.Mesh.{at}
 use Rattle.theory.specs.Counting.{count}
-use Rattle.theory.proofs.Counting.{count-le, count-grows, count-hit, count-injective}
+use Rattle.theory.proofs.Counting.{count-le}
+use Rattle.theory.proofs.Numbering.{Ranks, count-ranks}
 use Rattle.lists.specs.Marks.{marked, bitOf, RanksOf}
 
 -- ---- marks
@@ -38,28 +37,18 @@ count-marked marks i = rw (add-one i)
 
 -- ---- ranks
 
-module _ {n : ℕ} {marks : List ℕ} {total : ℕ} {rank : List ℕ} (R : RanksOf n marks total rank) where
-  -- no more are marked than there are
-  pub total-le : total ≤ n
-  total-le = rw (R .all) (count-le (marked marks) n)
+-- no more are marked than there are
+pub total-le : {n : ℕ} {marks : List ℕ} {total : ℕ} {rank : List ℕ} → RanksOf n marks total rank → total ≤ n
+total-le {n} {marks} R = rw (R .all) (count-le (marked marks) n)
 
-  -- the ranks of marked indices go upward
-  pub rank-upward : (i j : ℕ) → i < j → j < n → T (marked marks i) → at rank i < at rank j
-  rank-upward i j l b t = omega (arith, R .entry i (omega arith), R .entry j b, count-grows (marked marks) i j l t)
+-- The marked indices below n are those with Q.
+pub record MarksOf (Q : ℕ → Type 0) (n : ℕ) (marks : List ℕ) : Type 0 where
+  pub inside : (i : ℕ) → Q i → i < n
+  pub passes : (i : ℕ) → Q i → T (marked marks i)
+  pub has : (i : ℕ) → i < n → T (marked marks i) → Q i
 
-  -- and stay below the total
-  pub rank-below : (i : ℕ) → i < n → T (marked marks i) → at rank i < total
-  rank-below i l t = omega (arith, R .entry i l, R .all, count-grows (marked marks) i n l t)
-
-  -- marked indices have different ranks
-  pub rank-injective : (i j : ℕ) → i < n → j < n → T (marked marks i) → T (marked marks j) → at rank i ≡ at rank j
-      → i ≡ j
-  rank-injective i j l b s t e = count-injective (marked marks) i j s t (sym (R .entry i l) ∙ e ∙ R .entry j b)
-
-  -- every number below the total is the rank of a marked index
-  pub rank-onto : (y : ℕ) → y < total → (i : ℕ) × (i < n) × T (marked marks i) × (at rank i ≡ y)
-  rank-onto y l = go (count-hit (marked marks) n y (rw (R .all) at l))
-    where
-      go : (i : ℕ) × (i < n) × T (marked marks i) × (count (marked marks) i ≡ y)
-          → (i : ℕ) × (i < n) × T (marked marks i) × (at rank i ≡ y)
-      go (i, b, t, e) = (i, b, t, R .entry i b ∙ e)
+-- how many are marked before each is its rank: the ranks number what is marked, upward and without gaps
+pub marks-ranks : {Q : ℕ → Type 0} {n total : ℕ} {marks rank : List ℕ} → MarksOf Q n marks → RanksOf n marks total rank
+    → Ranks Q rank total
+marks-ranks {n = n} {marks = marks} A R =
+    rw (R .all) (count-ranks (marked marks) n (λ i q. (A .inside i q, A .passes i q)) (A .has) (R .entry))

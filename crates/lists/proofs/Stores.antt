@@ -1,5 +1,5 @@
--- Laws of runs of stores (`sets` of the kit's `lib.Seq`): as single stores, by their entries, one run behind another,
--- and a run right behind a front part.
+-- Laws of runs of stores (`sets` of the kit's `lib.Seq`): as single stores, by their entries, one run after another,
+-- and a run right after a front part.
 use Prim.Native.Nat.{ℕ, zero, suc, _+_, _≤_, _<_}
 use native.Mathlib.Nat.{add-zero}
 use native.Mathlib.Numerals.{add-one, add-two, add-three}
@@ -14,7 +14,7 @@ use Rattle.lists.proofs.Lists.{at-set-same, at-set-other, length-replac
 
 -- ---- single stores
 
--- two stores one behind the other
+-- two stores one after the other
 pub two-stores : (xs : List ℕ) (i a b : ℕ) → set (set xs i a) (i + 1) b ≡ sets xs i (a ∷ b ∷ [])
 two-stores xs i a b = rw (add-one i)
 
@@ -48,7 +48,7 @@ at-sets (v ∷ vs) xs i (suc j) room l =
     let e : i + suc j ≡ suc i + j = omega arith in
     rw e (at-sets vs (set xs i v) (suc i) j (simp length-set (omega arith)) (omega arith))
 
--- ---- runs behind one another
+-- ---- runs after one another
 
 -- two runs, the second from where the first ends, are one run
 pub sets-append : (xs : List ℕ) (i : ℕ) (vs ws : List ℕ) → sets (sets xs i vs) (i + length vs) ws ≡ sets xs i (vs ++ ws)
@@ -58,14 +58,14 @@ sets-append xs i (v ∷ vs) ws =
     rw e (sets-append (set xs i v) (suc i) vs ws)
 
 module _ (ps ys : List ℕ) (n : ℕ) (long : length ps ≡ n) where
-  -- what is left of the entries behind a front part, m of them further on
+  -- what is left of the entries after a front part, m of them further on
   drop-behind : (m : ℕ) → drop (n + m) (ps ++ drop n ys) ≡ drop (n + m) ys
   drop-behind m =
       ap (λ (k : ℕ). drop (k + m) (ps ++ drop n ys)) (sym long)
       ∙ drop-append-add ps (drop n ys) m
       ∙ drop-drop m n ys
 
-  -- a run right behind a front part makes it longer
+  -- a run right after a front part makes it longer
   pub sets-front : (vs : List ℕ) → n + length vs ≤ length ys
       → sets (ps ++ drop n ys) n vs ≡ ps ++ vs ++ drop (n + length vs) ys
   sets-front vs room =

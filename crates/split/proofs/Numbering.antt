@@ -13,10 +13,10 @@ use Rattle.theory.proofs.Counting.{count-passes, count-fails}
 use Rattle.theory.proofs.Splitting as splitting
 use Rattle.theory.proofs.Splitting.{firstOn-same, firstOn-cong, edgeNo-below}
 use Rattle.lists.proofs.Lists.{by-lt}
-use Rattle.rings.specs.Ring.{RingBy}
+use Rattle.mesh_rings.specs.Ring.{RingBy}
 use Rattle.split.specs.Numbers.{Numbered}
 
--- one half-edge behind h with its key, and none of its key between, is the one that follows h
+-- one half-edge after h with its key, and none of its key between, is the one that follows h
 pub follows-next : {n : ℕ} {key : ℕ → ℕ} {ring : List ℕ} → RingBy n key ring → (h g : ℕ) → h < g → g < n → key g ≡ key h
     → ((f : ℕ) → h < f → f < g → key f ≡ key g → ⊥) → g ≡ at ring h
 follows-next {ring = ring} R h g b l e between =

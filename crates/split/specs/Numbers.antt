@@ -7,7 +7,7 @@ use lib.ListN.{length, set}
 use Rattle.theory.specs.Mesh.{at}
 use Rattle.theory.specs.Splitting.{firstOn, edges, edgeNo}
 use Rattle.lists.specs.Tables.{Tabulated}
-use Rattle.rings.specs.Ring.{RingBy}
+use Rattle.mesh_rings.specs.Ring.{RingBy}
 
 -- What `number_edges` is lent: the rings of the edges of some list of n half-edges, and room.
 pub record NumberLent (N n : ℕ) (ring numbers : List ℕ) : Type 0 where

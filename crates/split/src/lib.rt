@@ -2,7 +2,7 @@
 // each triangle becomes. Both go once over the half-edges. Assumes nothing.
 use lists::at;
 use lists::fill;
-use rings::ring::chosen;
+use mesh_rings::ring::chosen;
 ghost use mathlib.Core.Path.{_≡_};
 ghost use Prim.Native.Nat.{ℕ, _+_, _*_, _≤_};
 ghost use mathlib.Core.List.{[], _∷_};

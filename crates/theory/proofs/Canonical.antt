@@ -9,18 +9,20 @@ use mathlib.Core.List.{List}
 use lib.Dec.{T as Passes, ltb, eqb, ltb→lt, lt→ltb, eqb→eq}
 use lib.ListN.{length}
 use Rattle.theory.specs.Counting.{count}
-use Rattle.theory.specs.Mesh.{at, triangles, On, Same, OtherwiseProper, Proper}
-use Rattle.theory.specs.Reading.{Matched, Reading, IsReading, Kept, Centre, RoleOf, ReadingIn, Returned}
+use Rattle.theory.specs.Mesh.{at, triangles, Same, OtherwiseProper, Proper}
+use Rattle.theory.specs.Reading.{Agreement, Matched, Reading, IsReading, Kept, Centre, RoleOf, ReadingIn}
+use Rattle.theory.specs.Reading.{Returned}
 use Rattle.theory.proofs.Tests.{eq→eqb}
 use Rattle.theory.proofs.Finite.{composed, composed-at}
 use Rattle.theory.proofs.Counting.{count-grows}
 use Rattle.theory.proofs.Splitting.{split-triangles}
-use Rattle.theory.proofs.Carried.{Carries, carried, matched-proper}
+use Rattle.theory.proofs.Carried.{Carries, matched-proper}
 use Rattle.theory.proofs.Numbering.{listed, Numbers, Renumbers, numbers-matched, count-numbers}
-use Rattle.theory.proofs.Renaming.{renumbers-matched, matched-composed}
-use Rattle.theory.proofs.Mesh.{on-place}
+use Rattle.theory.proofs.Agreement.{matched-same, reading-same}
+use Rattle.theory.proofs.Renaming.{renumbers-matched}
 use Rattle.theory.proofs.Centres.{coarseOf, kept-numbers, centre-numbers}
-use Rattle.theory.proofs.Rows.{Opposite, opposite-exists, opposite-unique, opposite-same}
+use Rattle.theory.proofs.Rows.{Opposite, opposite-exists, opposite-unique}
+use Rattle.theory.proofs.Lawful.{Lawful, matched-composed, carried}
 
 -- ---- upward numbers
 
@@ -61,7 +63,12 @@ record Rows (T : List ℕ) (r : Reading) (C′ : List ℕ) : Type 0 where
   long : length C′ ≡ 3 * centreRank r (triangles T)
   row : (k i : ℕ) → Centre r k → i < 3 → RowEntry T r k i (at C′ (3 * centreRank r k + i))
 
-module _ (N : ℕ) (T : List ℕ) (P : OtherwiseProper N T) (r : Reading) (R : IsReading Same N T r) where
+module _ (N : ℕ) (T : List ℕ) (P : OtherwiseProper N T) {agree : Agreement} (A : Lawful agree) (r : Reading)
+    (R : IsReading agree N T r) where
+  -- the reading is one by `Same`, of which the laws of readings speak
+  is-same : IsReading Same N T r
+  is-same = reading-same (A .implies) R
+
   -- the ranks number the kept vertices
   kept-ranked : Numbers (Kept r) (vertexRank r) (vertexRank r N)
   kept-ranked = count-numbers (Kept r) (kept? r) N
@@ -76,7 +83,7 @@ module _ (N : ℕ) (T : List ℕ) (P : OtherwiseProper N T) (r : Reading) (R : I
 
   -- from the reading's numbers to the ranks: of kept vertices
   keptMatch : Renumbers (Kept r) (at (r .vertexMap)) (r .vertices) (vertexRank r) (vertexRank r N)
-  keptMatch = numbers-matched (kept-numbers N T P r R) kept-ranked
+  keptMatch = numbers-matched (kept-numbers N T P r is-same) kept-ranked
 
   abbrev newVertex : List ℕ
   newVertex = keptMatch .list
@@ -84,7 +91,7 @@ module _ (N : ℕ) (T : List ℕ) (P : OtherwiseProper N T) (r : Reading) (R : I
   -- and of centres
   centreMatch : Renumbers (Centre r) (coarseOf r) (triangles (r .mesh)) (centreRank r)
       (centreRank r (triangles T))
-  centreMatch = numbers-matched (centre-numbers N T P r R) centre-ranked
+  centreMatch = numbers-matched (centre-numbers N T P r is-same) centre-ranked
 
   abbrev newTriangle : List ℕ
   newTriangle = centreMatch .list
@@ -100,7 +107,7 @@ module _ (N : ℕ) (T : List ℕ) (P : OtherwiseProper N T) (r : Reading) (R : I
 
       found : (k : ℕ) × Centre r k × (centreRank r k ≡ c / 3) → (x : ℕ) × Fits T r c x
       found (k, q, e) =
-          let x = entry k (opposite-exists N T P r R k (c % 3) q (omega arith)) in
+          let x = entry k (opposite-exists N T P r is-same k (c % 3) q (omega arith)) in
           (x .0, record { triangle = k; centre = q; rank = e; entry = x .1 })
 
   -- what fits in the place of corner i of centre k is an entry of its row
@@ -133,49 +140,36 @@ module _ (N : ℕ) (T : List ℕ) (P : OtherwiseProper N T) (r : Reading) (R : I
   module _ (C′ : List ℕ) (W : Rows T r C′) where
     -- ---- the coarse mesh matched onto the rows
 
-    -- the row has the rank of each vertex opposite
-    row-there : (k i w : ℕ) → Centre r k → i < 3 → Kept r w → Opposite T k i w
-        → On C′ (centreRank r k) (vertexRank r w)
-    row-there k i w q b p o = entry (W .row k i q b)
+    -- the row has in its places the new numbers of the vertices opposite
+    row-entry : (k i w : ℕ) → Centre r k → i < 3 → Kept r w → Opposite T k i w
+        → at C′ (3 * centreRank r k + i) ≡ at newVertex (at (r .vertexMap) w)
+    row-entry k i w q b p o = entry (W .row k i q b)
       where
-        entry : RowEntry T r k i (at C′ (3 * centreRank r k + i)) → On C′ (centreRank r k) (vertexRank r w)
-        entry (x, p′, o′, h) = record {
-          corner = 3 * centreRank r k + i;
-          inside = omega (arith, W .long, centre-ranked .below k q);
-          triangle = omega arith;
-          holds = h ∙ ap (vertexRank r) (opposite-unique N T P r R k i x w q b o′ o);
-        }
-
-    -- and no others
-    row-back : (k y : ℕ) → Centre r k → On C′ (centreRank r k) y
-        → (i : ℕ) × (i < 3) × (w : ℕ) × Kept r w × Opposite T k i w × (vertexRank r w ≡ y)
-    row-back k y q o = entry (W .row k (o .corner % 3) q (omega arith))
-      where
-        entry : RowEntry T r k (o .corner % 3) (at C′ (3 * centreRank r k + o .corner % 3))
-            → (i : ℕ) × (i < 3) × (w : ℕ) × Kept r w × Opposite T k i w × (vertexRank r w ≡ y)
-        entry (w, p, s, e) = (o .corner % 3, omega arith, w, p, s, sym e ∙ on-place o)
+        entry : RowEntry T r k i (at C′ (3 * centreRank r k + i))
+            → at C′ (3 * centreRank r k + i) ≡ at newVertex (at (r .vertexMap) w)
+        entry (x, _, o′, e) =
+            e ∙ ap (vertexRank r) (opposite-unique N T P r is-same k i x w q b o′ o) ∙ sym (keptMatch .sends w p)
 
     -- there is a row for each centre
     rows-triangles : triangles C′ ≡ centreRank r (triangles T)
     rows-triangles = omega arith
 
     -- so the coarse mesh is matched onto the rows
-    rows-matched : Matched Same newVertex newTriangle (r .vertices) (r .mesh) (vertexRank r N) C′
-    rows-matched = renumbers-matched (keptMatch .match) (centre-numbers N T P r R) centreMatch rows-triangles
-        (λ k q. opposite-same N T P r R newVertex C′ (vertexRank r) k (centreRank r k) q (keptMatch .sends)
-        (λ i w. row-there k i w q) (λ y. row-back k y q))
+    rows-matched : Matched agree newVertex newTriangle (r .vertices) (r .mesh) (vertexRank r N) C′
+    rows-matched = renumbers-matched (keptMatch .match) (centre-numbers N T P r is-same) centreMatch rows-triangles
+        (λ k q. A .rows N T P r R newVertex C′ k (centreRank r k) q
+        (omega (arith, W .long, centre-ranked .below k q)) (λ i w. row-entry k i w q))
 
     -- which are proper with it
     rows-proper : Proper (vertexRank r N) C′
     rows-proper = matched-proper newVertex newTriangle (r .vertices) (r .mesh) (vertexRank r N) C′
-        (R .proper) rows-matched (omega arith)
+        (R .proper) (matched-same (A .implies) rows-matched) (omega arith)
 
     -- ---- the reading that is carried along
 
     -- and the splitting goes with it
-    carry : Carries newVertex newTriangle (r .vertices) (r .mesh) (vertexRank r N) C′
-    carry = carried newVertex newTriangle (r .vertices) (r .mesh) (vertexRank r N) C′
-        (R .proper .otherwise) (rows-proper .otherwise) rows-matched
+    carry : Carries agree newVertex newTriangle (r .vertices) (r .mesh) (vertexRank r N) C′
+    carry = carried A (R .proper .otherwise) (rows-proper .otherwise) rows-matched
 
     -- the rows are the mesh of a reading
     abbrev renewed : Reading
@@ -186,10 +180,10 @@ module _ (N : ℕ) (T : List ℕ) (P : OtherwiseProper N T) (r : Reading) (R : I
       triangleMap = composed (r .triangleMap) (carry .triangleMap);
     }
 
-    renewed-is : IsReading Same N T renewed
+    renewed-is : IsReading agree N T renewed
     renewed-is = record {
       proper = rows-proper;
-      matched = matched-composed (P .below) (R .matched) (carry .matched);
+      matched = matched-composed A (P .below) (R .matched) (carry .matched);
     }
 
     -- it gives a kept vertex its rank
@@ -202,7 +196,7 @@ module _ (N : ℕ) (T : List ℕ) (P : OtherwiseProper N T) (r : Reading) (R : I
     centre-rank : (k : ℕ) → Centre r k → at (renewed .triangleMap) k ≡ 4 * centreRank r k
     centre-rank k q =
         composed-at (r .triangleMap) (carry .triangleMap) k (q .inside) ∙ ap (at (carry .triangleMap)) whole
-        ∙ carry .centre (coarseOf r k) (centre-numbers N T P r R .below k q)
+        ∙ carry .centre (coarseOf r k) (centre-numbers N T P r is-same .below k q)
         ∙ ap (λ x. 4 * x) (centreMatch .sends k q)
       where
         whole : at (r .triangleMap) k ≡ 4 * (coarseOf r k)
@@ -312,7 +306,7 @@ module _ (N : ℕ) (T : List ℕ) (P : OtherwiseProper N T) (r : Reading) (R : I
             (w, kept-there w p, o, ap (λ j. at C′ (3 * j + i)) place ∙ e ∙ sym (kept-rank w p))
 
     -- so it is the returned one
-    renewed-returned : (ρ : ℕ) → RoleOf T r 0 ρ → Returned Same N T ρ renewed
+    renewed-returned : (ρ : ℕ) → RoleOf T r 0 ρ → Returned agree N T ρ renewed
     renewed-returned ρ s = record {
       is = renewed-is;
       inRole = role-there 0 ρ s;
@@ -321,13 +315,13 @@ module _ (N : ℕ) (T : List ℕ) (P : OtherwiseProper N T) (r : Reading) (R : I
       rows = renewed-rows;
     }
 
-module _ (N : ℕ) (T : List ℕ) (P : Proper N T) where
-  -- every reading has a returned one in its role
-  pub returned-exists : (ρ : ℕ) → 0 < triangles T → ReadingIn Same N T ρ → (r : Reading) × Returned Same N T ρ r
-  returned-exists ρ _ R = numbered (rows-exist N T (P .otherwise) (R .reading) (R .is))
-    where
-      numbered : (C′ : List ℕ) × Rows T (R .reading) C′ → (r : Reading) × Returned Same N T ρ r
-      numbered (C′, W) = (
-        renewed N T (P .otherwise) (R .reading) (R .is) C′ W,
-        renewed-returned N T (P .otherwise) (R .reading) (R .is) C′ W ρ (R .inRole),
-      )
+-- every reading has a returned one in its role
+pub returned-exists : (N : ℕ) (T : List ℕ) → Proper N T → {agree : Agreement} → Lawful agree → (ρ : ℕ)
+    → ReadingIn agree N T ρ → (r : Reading) × Returned agree N T ρ r
+returned-exists N T P {agree} A ρ R = numbered (rows-exist N T (P .otherwise) A (R .reading) (R .is))
+  where
+    numbered : (C′ : List ℕ) × Rows T (R .reading) C′ → (r : Reading) × Returned agree N T ρ r
+    numbered (C′, W) = (
+      renewed N T (P .otherwise) A (R .reading) (R .is) C′ W,
+      renewed-returned N T (P .otherwise) A (R .reading) (R .is) C′ W ρ (R .inRole),
+    )

@@ -1,7 +1,8 @@
 -- Carrying a splitting along: where one proper mesh is matched onto another, so are their splittings; coarse vertices
 -- go where they went, vertices between to vertices between, and the four of a triangle to the four of its match, the
 -- centre to the centre. The way is over the corners: a match of meshes matches their corners, and a half-edge goes
--- with the corner that it misses. And a match carries properness along.
+-- with the corner that it misses. And a match carries properness along. All of this rests on "the same three vertices"
+-- alone; that the triangles of the splittings agree as those of the meshes do is asked of each agreement (`Lawful`).
 use Prim.Native.Nat.{ℕ, suc, _+_, _*_, _/_, _%_, _-_, _≤_, _<_}
 use mathlib.Core.Path.{_≡_, refl, sym, ap, _∙_}
 use mathlib.Core.Logic.{_≢_, _⊎_, inl, inr}
@@ -11,7 +12,7 @@ use native.Mathlib.Omega.{arith}
 use lib.ListN.{length}
 use Rattle.theory.specs.Mesh.{at, triangles, On, HasEdge, Same, Reach, here, step, OtherwiseProper, Proper}
 use Rattle.theory.specs.Splitting.{next, edges, edgeNo, split}
-use Rattle.theory.specs.Reading.{Match, renamed, Matched}
+use Rattle.theory.specs.Reading.{Agreement, Match, renamed, Matched}
 use Rattle.theory.proofs.Numbering.{OneToOne, Chosen, choose}
 use Rattle.theory.proofs.Corners.{corner-unique, triangle-inside, corners-onto, before, next-triangle}
 use Rattle.theory.proofs.Corners.{before-triangle, next-place, next-before, before-next, Ends, next-ends}
@@ -24,10 +25,10 @@ use Rattle.theory.proofs.Splitting.{split-length, split-triangles, OnSp
 use Rattle.theory.proofs.Heart.{split-below, split-different}
 
 -- matches of one splitting onto another that keep coarse vertices coarse and centres centres
-pub record Carries (f g : List ℕ) (M : ℕ) (C : List ℕ) (M′ : ℕ) (C′ : List ℕ) : Type 0 where
+pub record Carries (agree : Agreement) (f g : List ℕ) (M : ℕ) (C : List ℕ) (M′ : ℕ) (C′ : List ℕ) : Type 0 where
   pub vertexMap : List ℕ
   pub triangleMap : List ℕ
-  pub matched : Matched Same vertexMap triangleMap (M + edges C) (split M C) (M′ + edges C′) (split M′ C′)
+  pub matched : Matched agree vertexMap triangleMap (M + edges C) (split M C) (M′ + edges C′) (split M′ C′)
   pub coarse : (v : ℕ) → v < M → at vertexMap v ≡ at f v
   pub between : (v : ℕ) → M ≤ v → v < M + edges C → M′ ≤ at vertexMap v
   pub four : (t : ℕ) → t < 4 * triangles C → at triangleMap t / 4 ≡ at g (t / 4)
@@ -59,7 +60,7 @@ centre-no-corner j c = omega arith
 cornerTriangle-injective : (c d : ℕ) → cornerTriangle c ≡ cornerTriangle d → c ≡ d
 cornerTriangle-injective c d e = omega arith
 
--- the triangle at a corner stands at the corner's place, behind the centre
+-- the triangle at a corner stands at the corner's place, after the centre
 cornerTriangle-place : (c t : ℕ) → t ≡ cornerTriangle c → t % 4 ≡ suc (c % 3)
 cornerTriangle-place c t e = omega arith
 
@@ -135,10 +136,10 @@ module _ (f T S : List ℕ) (N n k l : ℕ) (F : Match f N n) (below : (c : ℕ)
 -- ---- what a match of meshes does to triangles and their vertices
 
 -- corner c of C goes to corner c′ of C′: into the matched triangle, at the matched vertex
-record CornerTo (f g C C′ : List ℕ) (c c′ : ℕ) : Type 0 where
-  inside : c′ < length C′
-  triangle : c′ / 3 ≡ at g (c / 3)
-  holds : at C′ c′ ≡ at f (at C c)
+pub record CornerTo (f g C C′ : List ℕ) (c c′ : ℕ) : Type 0 where
+  pub inside : c′ < length C′
+  pub triangle : c′ / 3 ≡ at g (c / 3)
+  pub holds : at C′ c′ ≡ at f (at C c)
 
 module _ (f g : List ℕ) (M : ℕ) (C : List ℕ) (M′ : ℕ) (C′ : List ℕ)
     (P : OtherwiseProper M C) (G : Matched Same f g M C M′ C′) where
@@ -281,25 +282,25 @@ matched-proper f g M C M′ C′ P G w = record {
 -- ---- where the vertices and triangles of a splitting go
 
 -- matched proper meshes, with the match of their corners
-record Carrying (f g κ : List ℕ) (M : ℕ) (C : List ℕ) (M′ : ℕ) (C′ : List ℕ) : Type 0 where
-  source : OtherwiseProper M C
-  target : OtherwiseProper M′ C′
-  matched : Matched Same f g M C M′ C′
-  corners : Match κ (length C) (length C′)
-  related : (c : ℕ) → c < length C → CornerTo f g C C′ c (at κ c)
+pub record Carrying (f g κ : List ℕ) (M : ℕ) (C : List ℕ) (M′ : ℕ) (C′ : List ℕ) : Type 0 where
+  pub source : OtherwiseProper M C
+  pub target : OtherwiseProper M′ C′
+  pub matched : Matched Same f g M C M′ C′
+  pub corners : Match κ (length C) (length C′)
+  pub related : (c : ℕ) → c < length C → CornerTo f g C C′ c (at κ c)
 
 -- Where half-edge h goes: to the one that misses the match of the corner that h misses.
 abbrev half : List ℕ → ℕ → ℕ
 half κ h = next (at κ (before h))
 
-module _ (f g κ : List ℕ) (M : ℕ) (C : List ℕ) (M′ : ℕ) (C′ : List ℕ) (K : Carrying f g κ M C M′ C′) where
+module _ {f g κ : List ℕ} {M : ℕ} {C : List ℕ} {M′ : ℕ} {C′ : List ℕ} (K : Carrying f g κ M C M′ C′) where
   -- vertex v goes to v′: a coarse one to its match, the vertex on an edge to the vertex on the edge that this goes to
-  data VertexTo (v v′ : ℕ) : Type 0 where
+  pub data VertexTo (v v′ : ℕ) : Type 0 where
     toCoarse : v < M → at f v ≡ v′ → VertexTo v v′
     toEdge : (h : ℕ) → h < length C → edgeNo M C h ≡ v → edgeNo M′ C′ (half κ h) ≡ v′ → VertexTo v v′
 
   -- triangle t goes to t′: a centre to the centre of the match, the triangle at a corner to the one at its match
-  data TriangleTo (t t′ : ℕ) : Type 0 where
+  pub data TriangleTo (t t′ : ℕ) : Type 0 where
     toCentre : (j : ℕ) → j < triangles C → t ≡ 4 * j → t′ ≡ 4 * at g j → TriangleTo t t′
     toCorner : (c : ℕ) → c < length C → t ≡ cornerTriangle c → t′ ≡ cornerTriangle (at κ c) → TriangleTo t t′
 
@@ -398,7 +399,7 @@ module _ (f g κ : List ℕ) (M : ℕ) (C : List ℕ) (M′ : ℕ) (C′ : List 
       go (h, b, e) = (edgeNo M′ C′ (half κ h), edgeNo-below M′ C′ (half κ h) (half-inside h b), toEdge h b e refl)
 
   -- to one vertex only: half-edges on one edge go to half-edges on one edge
-  vertexTo-one : (v x y : ℕ) → VertexTo v x → VertexTo v y → x ≡ y
+  pub vertexTo-one : (v x y : ℕ) → VertexTo v x → VertexTo v y → x ≡ y
   vertexTo-one v x y (toCoarse _ p) (toCoarse _ q) = sym p ∙ q
   vertexTo-one v x y (toCoarse l _) (toEdge h _ e _) = absurd (omega (arith, edgeNo-above M C h))
   vertexTo-one v x y (toEdge h _ e _) (toCoarse l _) = absurd (omega (arith, edgeNo-above M C h))
@@ -435,7 +436,7 @@ module _ (f g κ : List ℕ) (M : ℕ) (C : List ℕ) (M′ : ℕ) (C′ : List 
       between (k, b, e) = back k e (half-onto k b)
 
   -- so the vertices are matched
-  vertices : Chosen VertexTo (M + edges C) (M′ + edges C′)
+  pub vertices : Chosen VertexTo (M + edges C) (M′ + edges C′)
   vertices = choose VertexTo (M + edges C) (M′ + edges C′) (record {
     total = vertexTo-total;
     one = vertexTo-one;
@@ -491,7 +492,7 @@ module _ (f g κ : List ℕ) (M : ℕ) (C : List ℕ) (M′ : ℕ) (C′ : List 
       go (isCorner d b e) = corner d e (K .corners .onto d (rw (K .target .whole) b))
 
   -- so the triangles are matched
-  faces : Chosen TriangleTo (4 * triangles C) (4 * triangles C′)
+  pub faces : Chosen TriangleTo (4 * triangles C) (4 * triangles C′)
   faces = choose TriangleTo (4 * triangles C) (4 * triangles C′) (record {
     total = triangleTo-total;
     one = triangleTo-one;
@@ -564,44 +565,42 @@ module _ (f g κ : List ℕ) (M : ℕ) (C : List ℕ) (M′ : ℕ) (C′ : List 
       below = rw (← o .holds) (split-below M C (K .source) (o .corner) (o .inside))
 
   -- so matched triangles of the splittings are the same
-  splits-agree : (t : ℕ) → t < 4 * triangles C
+  pub splits-agree : (t : ℕ) → t < 4 * triangles C
       → Same (renamed (vertices .list) (split M C)) t (split M′ C′) (at (faces .list) t)
   splits-agree t l = three-same (vertices .list) (split M C) (split M′ C′) (M + edges C) (M′ + edges C′) t
       (at (faces .list) t) (vertices .match) (split-below M C (K .source))
       (split-different M C (K .source .whole) (K .source .different) (K .source .below))
       (omega (arith, split-length M C)) (λ v o. on-carried t v l o)
 
-  -- the splittings are matched
-  splits-matched : Matched Same (vertices .list) (faces .list) (M + edges C) (split M C) (M′ + edges C′) (split M′ C′)
-  splits-matched = record {
-    vertices = vertices .match;
-    faces = rw (split-triangles M C, split-triangles M′ C′) (faces .match);
-    agreed = λ t l. splits-agree t (rw (split-triangles M C) at l);
-  }
-
   -- vertices between go to vertices between
   vertexTo-between : (v v′ : ℕ) → M ≤ v → VertexTo v v′ → M′ ≤ v′
   vertexTo-between v v′ a (toCoarse l _) = absurd (omega arith)
   vertexTo-between v v′ a (toEdge h _ _ e) = rw (← e) (edgeNo-above M′ C′ (half κ h))
 
-  -- with all that is asked of the matches
-  carries : Carries f g M C M′ C′
-  carries = record {
+  -- where matched triangles agree, the splittings are matched with all that is asked
+  pub carries : {agree : Agreement}
+      → ((t : ℕ) → t < 4 * triangles C
+      → agree (renamed (vertices .list) (split M C)) t (split M′ C′) (at (faces .list) t))
+      → Carries agree f g M C M′ C′
+  carries agreed = record {
     vertexMap = vertices .list;
     triangleMap = faces .list;
-    matched = splits-matched;
+    matched = record {
+      vertices = vertices .match;
+      faces = rw (split-triangles M C, split-triangles M′ C′) (faces .match);
+      agreed = λ t l. agreed t (rw (split-triangles M C) at l);
+    };
     coarse = λ v l. vertexTo-one v _ (at f v) (vertices .related v (omega arith)) (toCoarse l refl);
     between = λ v a l. vertexTo-between v _ a (vertices .related v l);
     four = λ t l. triangleTo-four t _ (faces .related t l);
     centre = λ j l. triangleTo-one (4 * j) _ _ (faces .related (4 * j) (omega arith)) (toCentre j l refl refl);
   }
 
--- where proper meshes are matched, so are their splittings
-pub carried : (f g : List ℕ) (M : ℕ) (C : List ℕ) (M′ : ℕ) (C′ : List ℕ) → OtherwiseProper M C → OtherwiseProper M′ C′
-    → Matched Same f g M C M′ C′ → Carries f g M C M′ C′
-carried f g M C M′ C′ P P′ G =
+-- matched proper meshes have such a match of their corners
+pub carrying : {f g : List ℕ} {M : ℕ} {C : List ℕ} {M′ : ℕ} {C′ : List ℕ} → OtherwiseProper M C → OtherwiseProper M′ C′
+    → Matched Same f g M C M′ C′ → (κ : List ℕ) × Carrying f g κ M C M′ C′
+carrying {f} {g} {M} {C} {M′} {C′} P P′ G =
     go (choose (CornerTo f g C C′) (length C) (length C′) (cornerTo-oneToOne f g M C M′ C′ P G P′))
   where
-    go : Chosen (CornerTo f g C C′) (length C) (length C′) → Carries f g M C M′ C′
-    go K = carries f g (K .list) M C M′ C′
-        (record { source = P; target = P′; matched = G; corners = K .match; related = K .related })
+    go : Chosen (CornerTo f g C C′) (length C) (length C′) → (κ : List ℕ) × Carrying f g κ M C M′ C′
+    go K = (K .list, record { source = P; target = P′; matched = G; corners = K .match; related = K .related })

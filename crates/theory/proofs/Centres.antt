@@ -109,8 +109,8 @@ module _ (N : ℕ) (T : List ℕ) (P : OtherwiseProper N T) (r : Reading) (R : I
   -- ---- the numbers that a reading gives
 
   -- a triangle belongs to the four of a coarse triangle
-  pub coarse-below : (k : ℕ) → k < triangles T → coarseOf r k < triangles (r .mesh)
-  coarse-below k l = omega (arith, R .matched .faces .below k l, split-triangles (r .vertices) (r .mesh))
+  pub coarseOf-below : (k : ℕ) → k < triangles T → coarseOf r k < triangles (r .mesh)
+  coarseOf-below k l = omega (arith, R .matched .faces .below k l, split-triangles (r .vertices) (r .mesh))
 
   -- every triangle of the splitting is matched
   pub triangle-hit : (t : ℕ) → t < 4 * triangles (r .mesh)
@@ -132,7 +132,7 @@ module _ (N : ℕ) (T : List ℕ) (P : OtherwiseProper N T) (r : Reading) (R : I
   -- and, by the coarse triangles, the centres
   pub centre-numbers : Numbers (Centre r) (coarseOf r) (triangles (r .mesh))
   centre-numbers = record {
-    below = λ k c. coarse-below k (centre-below k c);
+    below = λ k c. coarseOf-below k (centre-below k c);
     apart = λ j k p q e. triangle-apart j k (centre-below j p) (centre-below k q) (omega arith);
     onto = λ j l. hit j (triangle-hit (4 * j) (omega arith));
   }
@@ -340,7 +340,7 @@ module _ (N : ℕ) (T : List ℕ) (P : OtherwiseProper N T) (r : Reading) (R : I
 
   -- every triangle belongs to the four of a centre
   four-centre : (l : ℕ) → l < triangles T → (k : ℕ) × Centre r k × (coarseOf r k ≡ coarseOf r l)
-  four-centre l b = centre-numbers .onto (coarseOf r l) (coarse-below l b)
+  four-centre l b = centre-numbers .onto (coarseOf r l) (coarseOf-below l b)
 
   -- a vertex between on a triangle is also on the centre of its four
   between-centre : (k l u : ℕ) → Centre r k → coarseOf r l ≡ coarseOf r k

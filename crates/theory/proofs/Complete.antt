@@ -9,10 +9,11 @@ use lib.ListN.{length}
 use lib.Seq.{ext-getD}
 use Rattle.theory.specs.Mesh.{at, triangles, On, HasEdge, Same, Reach, Proper}
 use Rattle.theory.specs.Splitting.{edges, edgeNo}
-use Rattle.theory.specs.Reading.{Reading, Kept, Between, Centre, RoleOf, Returned}
+use Rattle.theory.specs.Reading.{Agreement, Reading, IsReading, Kept, Between, Centre, RoleOf, Returned}
 use Rattle.theory.proofs.Finite.{match-size}
-use Rattle.theory.proofs.Numbering.{Numbers, numbers-of, numbers-size, Upward, upward-apart, upward-agree}
-use Rattle.theory.proofs.Mesh.{on-place, edge-side, across-edge, edge-across, on-triangle, side}
+use Rattle.theory.proofs.Numbering.{Numbers, numbers-of, numbers-size, upward-agree, ranks-numbers}
+use Rattle.theory.proofs.Mesh.{on-place, across-edge, edge-across, on-triangle, side}
+use Rattle.theory.proofs.Splitting.{shared-side}
 use Rattle.theory.proofs.Heart.{CoarseOn, coarse-on, common-between}
 use Rattle.theory.proofs.Centres.{
   splitting,
@@ -33,8 +34,8 @@ use Rattle.theory.proofs.Centres.{
 use Rattle.theory.proofs.Rows.{Opposite, edge-at, opposite-exists, opposite-unique}
 use Rattle.theory.proofs.Unique.{role-exists}
 use Rattle.theory.proofs.Determined.{quarter}
-use Rattle.theory.proofs.Tiles.{Covering, IsTile, Start, InRow, row-opposite, centre-tile}
-use Rattle.theory.proofs.Tiles.{reached-centre, centre-reached, row-kept, kept-row, start-centre}
+use Rattle.theory.proofs.Tiles.{Covering, InRow, row-opposite, centre-tile}
+use Rattle.theory.proofs.Tiles.{reached-centre, centre-reached, row-kept, kept-row}
 use Rattle.theory.proofs.Built.{Ranked, Built, Found}
 
 -- triangle l has the side of triangle k that ends at its corner i
@@ -125,81 +126,58 @@ module _ (N : ℕ) (T : List ℕ) (P : Proper N T) (ρ : ℕ) (r : Reading) (R :
           common-between (r .vertices) (r .mesh) (R .is .proper .otherwise) (coarseOf r k) i (at (r .vertexMap) v) b
           new (on l _ (f .otherEnd) d) (on m _ (subst (λ (j : ℕ). On T m (at T (3 * k + j))) before (g .oneEnd)) e)
 
--- ---- from the start of the role
+-- ---- from a centre, which the start of the role is
 
-module _ (N : ℕ) (T : List ℕ) (P : Proper N T) (some : 0 < triangles T) (W : List ℕ) (cover : Covering T W)
-    (ρ : ℕ) (r : Reading) (R : Returned Same N T ρ r) (s : ℕ) (start : Start T ρ s) where
-  -- the start is a centre
-  start-is-centre : Centre r s
-  start-is-centre = start-centre N T P W cover r (R .is) ρ s some (R .inRole) start
-
-  -- so it is a tile
-  pub start-tile : IsTile T s
-  start-tile = centre-tile N T P W cover r (R .is) s start-is-centre
-
+module _ (N : ℕ) (T : List ℕ) (P : Proper N T) (W : List ℕ) (cover : Covering T W) (ρ : ℕ) (r : Reading)
+    (R : Returned Same N T ρ r) (s : ℕ) (start : Centre r s) where
   -- each row reached is a centre's
   reach-centre : (k : ℕ) → Reach W s k → Centre r k
-  reach-centre k = reached-centre N T P W cover r (R .is) s k start-is-centre
+  reach-centre k = reached-centre N T P W cover r (R .is) s k start
 
   -- and each centre's row is reached
   centre-reach : (k : ℕ) → Centre r k → Reach W s k
-  centre-reach k = centre-reached N T P W cover r (R .is) s k start-is-centre
+  centre-reach k = centre-reached N T P W cover r (R .is) s k start
 
   -- each vertex in a reached row is kept
   in-row-kept : (v : ℕ) → InRow W s v → Kept r v
-  in-row-kept v = row-kept N T P W cover r (R .is) s v start-is-centre
+  in-row-kept v = row-kept N T P W cover r (R .is) s v start
 
   -- and each kept vertex is in one
   kept-in-row : (v : ℕ) → Kept r v → InRow W s v
-  kept-in-row v = kept-row N T P W cover r (R .is) s v start-is-centre
+  kept-in-row v = kept-row N T P W cover r (R .is) s v start
 
   -- so the reading numbers the vertices of the reached rows
   vertex-numbers : Numbers (InRow W s) (at (r .vertexMap)) (r .vertices)
   vertex-numbers = numbers-of in-row-kept kept-in-row (kept-numbers N T (P .otherwise) r (R .is))
 
   -- and the rows
-  row-numbers : Numbers (Reach W s) (coarseOf r) (triangles (r .mesh))
+  pub row-numbers : Numbers (Reach W s) (coarseOf r) (triangles (r .mesh))
   row-numbers = numbers-of reach-centre centre-reach (centre-numbers N T (P .otherwise) r (R .is))
 
   -- ---- the numbers of the reached rows and of their vertices are those of the reading
 
-  module _ (M F : ℕ) (rank tile : List ℕ) (ranked : Ranked W s M F rank tile) where
-    -- the ranks grow
-    rank-upward : Upward (InRow W s) (at rank)
-    rank-upward = record { grows = ranked .rankUpward }
-
-    -- and number the vertices
-    rank-numbers : Numbers (InRow W s) (at rank) M
-    rank-numbers = record { below = ranked .rankBelow; apart = upward-apart rank-upward; onto = ranked .rankOnto }
-
-    -- the tiles' numbers grow
-    tile-upward : Upward (Reach W s) (at tile)
-    tile-upward = record { grows = ranked .tileUpward }
-
-    -- and number the rows
-    tile-numbers : Numbers (Reach W s) (at tile) F
-    tile-numbers = record { below = ranked .tileBelow; apart = upward-apart tile-upward; onto = ranked .tileOnto }
-
+  module _ (M F : ℕ) (vertexRank rank : List ℕ) (ranked : Ranked W s M F vertexRank rank) where
     -- there are as many vertices as in the reading
     pub ranked-vertices : M ≡ r .vertices
-    ranked-vertices = numbers-size rank-numbers vertex-numbers
+    ranked-vertices = numbers-size (ranks-numbers (ranked .vertices)) vertex-numbers
 
     -- and as many rows as coarse triangles
     pub ranked-triangles : F ≡ triangles (r .mesh)
-    ranked-triangles = numbers-size tile-numbers row-numbers
+    ranked-triangles = numbers-size (ranks-numbers (ranked .rows)) row-numbers
 
     -- a quarter of the triangles
     pub ranked-quarter : triangles T ≡ 4 * F
     ranked-quarter = omega (arith, ranked-triangles, quarter (R .is))
 
     -- the rank of a vertex is its number in the reading
-    pub ranked-kept : (v : ℕ) → InRow W s v → at rank v ≡ at (r .vertexMap) v
-    ranked-kept = upward-agree rank-numbers vertex-numbers rank-upward
+    pub ranked-kept : (v : ℕ) → InRow W s v → at vertexRank v ≡ at (r .vertexMap) v
+    ranked-kept = upward-agree (ranks-numbers (ranked .vertices)) vertex-numbers (ranked .vertices .upward)
         (record { grows = λ u v p q. R .keptUpward u v (in-row-kept u p) (in-row-kept v q) })
 
     -- and the number of a row that of its coarse triangle
-    ranked-coarse : (k : ℕ) → Reach W s k → at tile k ≡ coarseOf r k
-    ranked-coarse = upward-agree tile-numbers row-numbers tile-upward (record { grows = grows })
+    ranked-coarse : (k : ℕ) → Reach W s k → at rank k ≡ coarseOf r k
+    ranked-coarse = upward-agree (ranks-numbers (ranked .rows)) row-numbers (ranked .rows .upward)
+        (record { grows = grows })
       where
         grows : (j k : ℕ) → Reach W s j → Reach W s k → j < k → coarseOf r j < coarseOf r k
         grows j k p q l =
@@ -208,30 +186,30 @@ module _ (N : ℕ) (T : List ℕ) (P : Proper N T) (some : 0 < triangles T) (W :
             omega (arith, R .centresUpward j k c d l)
 
     -- so four times that number is where the reading puts the centre
-    pub ranked-centre : (k : ℕ) → Reach W s k → 4 * at tile k ≡ at (r .triangleMap) k
+    pub ranked-centre : (k : ℕ) → Reach W s k → 4 * at rank k ≡ at (r .triangleMap) k
     ranked-centre k p = omega (arith, ranked-coarse k p, reach-centre k p)
 
   -- ---- what is built is the reading
 
-  module _ (M : ℕ) (C rank tile : List ℕ) (built : Built W s M C rank tile) where
+  module _ (M : ℕ) (C vertexRank rank : List ℕ) (built : Built W s M C vertexRank rank) where
     -- as many vertices
     built-vertices : M ≡ r .vertices
-    built-vertices = ranked-vertices M (triangles C) rank tile (built .ranked)
+    built-vertices = ranked-vertices M (triangles C) vertexRank rank (built .ranked)
 
     -- the same ranks
-    built-kept : (v : ℕ) → InRow W s v → at rank v ≡ at (r .vertexMap) v
-    built-kept = ranked-kept M (triangles C) rank tile (built .ranked)
+    built-kept : (v : ℕ) → InRow W s v → at vertexRank v ≡ at (r .vertexMap) v
+    built-kept = ranked-kept M (triangles C) vertexRank rank (built .ranked)
 
     -- the same numbers of the rows
-    built-coarse : (k : ℕ) → Reach W s k → at tile k ≡ coarseOf r k
-    built-coarse = ranked-coarse M (triangles C) rank tile (built .ranked)
+    built-coarse : (k : ℕ) → Reach W s k → at rank k ≡ coarseOf r k
+    built-coarse = ranked-coarse M (triangles C) vertexRank rank (built .ranked)
 
     -- the same centres
-    built-centre : (k : ℕ) → Reach W s k → 4 * at tile k ≡ at (r .triangleMap) k
-    built-centre = ranked-centre M (triangles C) rank tile (built .ranked)
+    built-centre : (k : ℕ) → Reach W s k → 4 * at rank k ≡ at (r .triangleMap) k
+    built-centre = ranked-centre M (triangles C) vertexRank rank (built .ranked)
 
     -- the same entries in each row
-    built-row : (k i : ℕ) → Reach W s k → i < 3 → at C (3 * at tile k + i) ≡ at (r .mesh) (3 * coarseOf r k + i)
+    built-row : (k i : ℕ) → Reach W s k → i < 3 → at C (3 * at rank k + i) ≡ at (r .mesh) (3 * coarseOf r k + i)
     built-row k i p b = go (R .rows k i c b)
       where
         c : Centre r k
@@ -242,20 +220,20 @@ module _ (N : ℕ) (T : List ℕ) (P : Proper N T) (some : 0 < triangles T) (W :
             (centre-tile N T P W cover r (R .is) k c) b
 
         go : (w : ℕ) × Kept r w × Opposite T k i w × (at (r .mesh) (3 * coarseOf r k + i) ≡ at (r .vertexMap) w)
-            → at C (3 * at tile k + i) ≡ at (r .mesh) (3 * coarseOf r k + i)
+            → at C (3 * at rank k + i) ≡ at (r .mesh) (3 * coarseOf r k + i)
         go (w, q, o, e) =
             let z : at W (3 * k + i) ≡ w = opposite-unique N T (P .otherwise) r (R .is) k i _ w c b opposite o in
-            built .rows k i p b ∙ ap (at rank) z ∙ built-kept w (kept-in-row w q) ∙ sym e
+            built .rows k i p b ∙ ap (at vertexRank) z ∙ built-kept w (kept-in-row w q) ∙ sym e
 
     -- so the same mesh
     pub built-mesh : C ≡ r .mesh
     built-mesh = ext-getD 0 C (r .mesh) long
-        (λ c l. entry c (built .ranked .tileOnto (c / 3) (omega arith)))
+        (λ c l. entry c (built .ranked .rows .onto (c / 3) (omega arith)))
       where
         long : length C ≡ length (r .mesh)
-        long = omega (arith, ranked-triangles M (triangles C) rank tile (built .ranked))
+        long = omega (arith, ranked-triangles M (triangles C) vertexRank rank (built .ranked))
 
-        entry : (c : ℕ) → (k : ℕ) × Reach W s k × (at tile k ≡ c / 3) → at C c ≡ at (r .mesh) c
+        entry : (c : ℕ) → (k : ℕ) × Reach W s k × (at rank k ≡ c / 3) → at C c ≡ at (r .mesh) c
         entry c (k, p, e) = subst₂ (λ (x y : ℕ). at C x ≡ at (r .mesh) y) (omega arith)
             (omega (arith, built-coarse k p)) (built-row k (c % 3) p (omega arith))
 
@@ -265,20 +243,21 @@ module _ (N : ℕ) (T : List ℕ) (P : Proper N T) (some : 0 < triangles T) (W :
 
     -- the corner i of a centre is numbered as the vertex on half-edge i of its row
     pub built-between : (k i : ℕ) → Reach W s k → i < 3
-        → at (r .vertexMap) (at T (3 * k + i)) ≡ edgeNo M C (3 * at tile k + i)
+        → at (r .vertexMap) (at T (3 * k + i)) ≡ edgeNo M C (3 * at rank k + i)
     built-between k i p b =
         rw (built-vertices, built-mesh, built-coarse k p) (returned-between N T P ρ r R k i (reach-centre k p) b)
 
     -- and the triangle over the side that ends there stands at corner i
     pub built-corner : (k i l : ℕ) → Reach W s k → i < 3 → l ≢ k
-        → HasEdge T l (at T (3 * k + (i + 2) % 3)) (at T (3 * k + i)) → at (r .triangleMap) l ≡ 4 * at tile k + suc i
+        → HasEdge T l (at T (3 * k + (i + 2) % 3)) (at T (3 * k + i)) → at (r .triangleMap) l ≡ 4 * at rank k + suc i
     built-corner k i l p b n h =
         omega (arith, built-coarse k p, returned-corner N T P ρ r R k i l (reach-centre k p) b n h)
 
     -- so that the reading's own maps pass every test
-    pub built-found : Found N T W s M C rank tile (r .vertexMap) (r .triangleMap)
-    built-found = record {
-      quarter = ranked-quarter M (triangles C) rank tile (built .ranked);
+    pub built-found : {agree : Agreement} → IsReading agree N T r
+        → Found agree N T W s M C vertexRank rank (r .vertexMap) (r .triangleMap)
+    built-found is = record {
+      quarter = ranked-quarter M (triangles C) vertexRank rank (built .ranked);
       count = built-count;
       longVertices = R .is .matched .vertices .long;
       longTriangles = R .is .matched .faces .long;
@@ -286,12 +265,12 @@ module _ (N : ℕ) (T : List ℕ) (P : Proper N T) (some : 0 < triangles T) (W :
       between = built-between;
       centres = λ k p. sym (built-centre k p);
       corners = built-corner;
-      agreed = λ k l. rw (built-vertices, built-mesh) (R .is .matched .agreed k l);
+      agreed = λ k l. rw (built-vertices, built-mesh) (is .matched .agreed k l);
     }
 
     -- and a vertex map that passes `kept` and `between` is the reading's
-    pub found-vertices : (vm : List ℕ) → ((v : ℕ) → InRow W s v → at vm v ≡ at rank v)
-        → ((k i : ℕ) → Reach W s k → i < 3 → at vm (at T (3 * k + i)) ≡ edgeNo M C (3 * at tile k + i))
+    pub found-vertices : (vm : List ℕ) → ((v : ℕ) → InRow W s v → at vm v ≡ at vertexRank v)
+        → ((k i : ℕ) → Reach W s k → i < 3 → at vm (at T (3 * k + i)) ≡ edgeNo M C (3 * at rank k + i))
         → (v : ℕ) → v < N → at vm v ≡ at (r .vertexMap) v
     found-vertices vm kept between v l = go (kept-or-between N T (P .otherwise) r (R .is) v l)
       where
@@ -307,9 +286,9 @@ module _ (N : ℕ) (T : List ℕ) (P : Proper N T) (some : 0 < triangles T) (W :
         go (inr q) = corner (between-on N T (P .otherwise) r (R .is) v q)
 
     -- as is a triangle map that passes `centres` and `corners`
-    pub found-triangles : (tm : List ℕ) → ((k : ℕ) → Reach W s k → at tm k ≡ 4 * at tile k)
+    pub found-triangles : (tm : List ℕ) → ((k : ℕ) → Reach W s k → at tm k ≡ 4 * at rank k)
         → ((k i l : ℕ) → Reach W s k → i < 3 → l ≢ k → HasEdge T l (at T (3 * k + (i + 2) % 3)) (at T (3 * k + i))
-        → at tm l ≡ 4 * at tile k + suc i)
+        → at tm l ≡ 4 * at rank k + suc i)
         → (k : ℕ) → k < triangles T → at tm k ≡ at (r .triangleMap) k
     found-triangles tm centres corners k l = go (role-exists N T P r (R .is) k l)
       where
@@ -319,7 +298,7 @@ module _ (N : ℕ) (T : List ℕ) (P : Proper N T) (some : 0 < triangles T) (W :
         over : (i : ℕ) → i < 3 → CentreOver T r k (at T (3 * k + (i + 1) % 3)) (at T (3 * k + (i + 2) % 3))
             → at tm k ≡ at (r .triangleMap) k
         over i b c = corner (c .triangle) (centre-reach (c .triangle) (c .is)) (λ e. c .other (sym e))
-            (edge-side (c .has)
+            (shared-side (c .has)
             (side (P .otherwise) k ((i + 1) % 3) ((i + 2) % 3) l (omega arith) (omega arith) (omega arith)))
 
         go : (σ : ℕ) × (σ ≤ 3) × RoleOf T r k σ → at tm k ≡ at (r .triangleMap) k

@@ -102,6 +102,10 @@ corners-follow a b t n = elim (next-or-before b a (sym t) (λ e. n (sym e))) [
   | inr e ↦ inr (ap next e ∙ next-before a)
 ]
 
+-- and a corner that half-edge h does not touch is the one before
+pub missed-corner : (h c : ℕ) → c / 3 ≡ h / 3 → c ≢ h → c ≢ next h → before h ≡ c
+missed-corner h c e m n = omega arith
+
 -- two different half-edges of a triangle touch every corner of it
 pub touched : (g h c : ℕ) → g / 3 ≡ h / 3 → c / 3 ≡ g / 3 → g ≢ h
     → ((c ≡ g) ⊎ (c ≡ next g)) ⊎ ((c ≡ h) ⊎ (c ≡ next h))

@@ -5,20 +5,22 @@ use Prim.Native.Nat.{ℕ, _+_, _*_, _≤_}
 use native.Mathlib.Omega.{arith}
 use mathlib.Core.Path.{_≡_, sym, ap, _∙_, subst₂}
 use mathlib.Core.List.{List, map}
-use Rattle.theory.specs.Limits.{mostTriangles, mostSplitTriangles}
+use Rattle.theory.specs.Limits.{mostTriangles, mostSplitTriangles, anyRole}
 use Rattle.theory.specs.Mesh.{triangles, Same}
 use Rattle.theory.specs.Splitting.{edges, split}
 use Rattle.theory.specs.Reading.{Reading, ReadingIn, Returned}
 use Rattle.theory.specs.Choice.{LeastRole, Chosen, NoneChosen}
-use Rattle.theory.specs.Calls.{Answer, OneAnswer, Outputs, refusal, accepted, written, zeros}
-use Rattle.theory.specs.Calls.{splitRooms, Splits, undoOneRooms, writtenReading, UndoesOne}
+use Rattle.theory.specs.Calls.{Answer, OneAnswer, Outputs, accepted, oneRefusal, oneAccepted, written, zeros}
+use Rattle.theory.specs.Calls.{lentToSplit, Splits, lentToUndoOne, writtenReading, acceptedReading, UndoesOne}
 use Rattle.theory.specs.Demands.{Enough, Within, SameApart, foundMesh, foundReading, SplitsBack, Exactly}
 use Rattle.theory.proofs.Splitting.{edges-le, split-triangles}
+use Rattle.theory.proofs.Lawful.{same-lawful}
 use Rattle.theory.proofs.SplitProper.{split-proper, vertices-le, itself, split-returned}
 use Rattle.theory.proofs.Unique.{coarse-matched}
+use Rattle.theory.proofs.Determined.{returned-in}
 use Rattle.theory.proofs.Determined.{quarter, splits-determined, undoes-one-determined}
 use Rattle.theory.proofs.Results.{reading-within, split-accepts, split-accepted, reading-splits, one-accepts}
-use Rattle.theory.proofs.Results.{one-accepted, one-accepted-found, outcome, outcome-exactly}
+use Rattle.theory.proofs.Results.{one-accepted-found, outcome, outcome-exactly}
 use Rattle.theory.proofs.Results.{chosen-named, none-named, chosen-least, none-least}
 use Rattle.theory.proofs.Results.{chosen-accepted, none-refused}
 
@@ -42,7 +44,7 @@ module _ {N : ℕ} {T : List ℕ} {asked : ℕ} {out out′ : Outputs} {works wo
 
   -- "any mesh that undo one returns is accepted by split with room enough lent"
   pub returned-accepted : {o : List ℕ} {ws : List (List ℕ)}
-      → Enough (splitRooms (returned .vertices) (returned .mesh) o ws)
+      → Enough (lentToSplit (returned .vertices) (returned .mesh) o ws)
       → Splits (returned .vertices) (returned .mesh) o ws
       (accepted (returned .vertices + edges (returned .mesh)) (4 * triangles (returned .mesh)))
       (written (split (returned .vertices) (returned .mesh)) o) (map zeros ws)
@@ -50,7 +52,7 @@ module _ {N : ℕ} {T : List ℕ} {asked : ℕ} {out out′ : Outputs} {works wo
 
   -- ".., and its splitting is the input under the returned maps"
   pub returned-splits : {o o′ : List ℕ} {ws ws′ : List (List ℕ)} {a : Answer}
-      → Enough (splitRooms (returned .vertices) (returned .mesh) o ws)
+      → Enough (lentToSplit (returned .vertices) (returned .mesh) o ws)
       → Splits (returned .vertices) (returned .mesh) o ws a o′ ws′ → SplitsBack N T returned o ws a o′ ws′
   returned-splits enough S =
       reading-splits (one-accepted-found U none .returned .is) (splits-determined S (returned-accepted enough))
@@ -61,7 +63,7 @@ module _ {N : ℕ} {T : List ℕ} {asked : ℕ} {out out′ : Outputs} {works wo
 -- the mesh and the maps; the rest stays.
 pub record ComesBack (N : ℕ) (T : List ℕ) (out : Outputs) (works : List (List ℕ)) (answer : OneAnswer) (out′ : Outputs)
     (works′ : List (List ℕ)) : Type 0 where
-  pub answers : answer ≡ record { common = accepted N (triangles T); role = 0 }
+  pub answers : answer ≡ oneAccepted 0 N (triangles T)
   pub writes : out′ ≡ writtenReading (itself N T) out
   pub clears : works′ ≡ map zeros works
 
@@ -76,32 +78,29 @@ split-within {N} {T} W = record {
 
 -- "a proper mesh within split's limits, split, and undone asking 0 with room enough lent, is accepted"
 pub split-undone : {N : ℕ} {T : List ℕ} {out : Outputs} {works : List (List ℕ)} → Within mostSplitTriangles N T
-    → Enough (undoOneRooms (N + edges T) (split N T) out works)
-    → UndoesOne (N + edges T) (split N T) 0 out works (record { common = accepted N (triangles T); role = 0 })
+    → Enough (lentToUndoOne (N + edges T) (split N T) out works)
+    → UndoesOne (N + edges T) (split N T) 0 out works (oneAccepted 0 N (triangles T))
     (writtenReading (itself N T) out) (map zeros works)
-split-undone {N} {T} W enough = one-accepts (split-within W) enough (Chosen.named (omega arith) here) R
+split-undone {N} {T} W enough = one-accepts (split-within W) enough (Chosen.named (omega arith) (returned-in R)) R
   where
     R : Returned Same (N + edges T) (split N T) 0 (itself N T)
-    R = split-returned N T (W .proper) (W .some)
-
-    here : ReadingIn Same (N + edges T) (split N T) 0
-    here = record { reading = itself N T; is = R .is; inRole = R .inRole }
+    R = split-returned N T (W .proper) same-lawful (W .some)
 
 -- ".. and comes back"
 pub split-comes-back : {N : ℕ} {T : List ℕ} {out out′ : Outputs} {works works′ : List (List ℕ)} {answer : OneAnswer}
-    → Within mostSplitTriangles N T → Enough (undoOneRooms (N + edges T) (split N T) out works)
+    → Within mostSplitTriangles N T → Enough (lentToUndoOne (N + edges T) (split N T) out works)
     → UndoesOne (N + edges T) (split N T) 0 out works answer out′ works′ → ComesBack N T out works answer out′ works′
 split-comes-back {N} {T} {out} {out′} {works} {works′} {answer} W enough U =
     go (undoes-one-determined U (split-undone W enough))
   where
-    go : (answer ≡ record { common = accepted N (triangles T); role = 0 }) × (out′ ≡ writtenReading (itself N T) out)
+    go : (answer ≡ oneAccepted 0 N (triangles T)) × (out′ ≡ writtenReading (itself N T) out)
         × (works′ ≡ map zeros works) → ComesBack N T out works answer out′ works′
     go (e, f, g) = record { answers = e; writes = f; clears = g }
 
 -- the same of the two calls one after the other, whatever buffers are lent to them
 pub round-trip : {N : ℕ} {T o o′ : List ℕ} {ws ws′ : List (List ℕ)} {a : Answer}
     {out out′ : Outputs} {works works′ : List (List ℕ)} {answer : OneAnswer}
-    → Splits N T o ws a o′ ws′ → a .refusal ≡ 0 → Enough (undoOneRooms (a .vertices) (foundMesh a o′) out works)
+    → Splits N T o ws a o′ ws′ → a .refusal ≡ 0 → Enough (lentToUndoOne (a .vertices) (foundMesh a o′) out works)
     → UndoesOne (a .vertices) (foundMesh a o′) 0 out works answer out′ works′
     → ComesBack N T out works answer out′ works′
 round-trip {N} {T} {o′ = o′} {a = a} {out} {out′} {works} {works′} {answer} S none enough U =
@@ -109,7 +108,7 @@ round-trip {N} {T} {o′ = o′} {a = a} {out} {out′} {works} {works′} {answ
   where
     go : Within mostSplitTriangles N T × (a .vertices ≡ N + edges T) × (foundMesh a o′ ≡ split N T)
         → ComesBack N T out works answer out′ works′
-    go (W, e, f) = split-comes-back W (subst₂ (λ (M : ℕ) (C : List ℕ). Enough (undoOneRooms M C out works)) e f enough)
+    go (W, e, f) = split-comes-back W (subst₂ (λ (M : ℕ) (C : List ℕ). Enough (lentToUndoOne M C out works)) e f enough)
         (subst₂ (λ (M : ℕ) (C : List ℕ). UndoesOne M C 0 out works answer out′ works′) e f U)
 
 -- ---- demand 3: undo one accepts exactly what has a reading
@@ -118,7 +117,7 @@ round-trip {N} {T} {o′ = o′} {a = a} {out} {out′} {works} {works′} {answ
 pub reading-unique : {most N : ℕ} {T : List ℕ} {role : ℕ} → Within most N T → (R S : ReadingIn Same N T role)
     → SameApart (R .reading .vertices) (R .reading .mesh) (S .reading .vertices) (S .reading .mesh)
 reading-unique {N = N} {T} {role} W R S =
-    coarse-matched N T (W .proper) (R .reading) (S .reading) (R .is) (S .is) role (W .some) (R .inRole) (S .inRole)
+    coarse-matched N T (W .proper) same-lawful (R .reading) (S .reading) (R .is) (S .is) 0 role (R .inRole) (S .inRole)
 
 module _ {N : ℕ} {T : List ℕ} {asked : ℕ} {out out′ : Outputs} {works works′ : List (List ℕ)} {answer : OneAnswer}
     (U : UndoesOne N T asked out works answer out′ works′) (none : answer .common .refusal ≡ 0) where
@@ -143,32 +142,32 @@ module _ {N : ℕ} {T : List ℕ} {asked : ℕ} {out out′ : Outputs} {works wo
 
 -- asked 0 to 3: accepted exactly if some coarse mesh is a reading in the role asked, and else refused with 11
 pub accepted-exactly : {N : ℕ} {T : List ℕ} {role : ℕ} {out out′ : Outputs} {works works′ : List (List ℕ)}
-    {answer : OneAnswer} → Within mostTriangles N T → Enough (undoOneRooms N T out works) → role ≤ 3
+    {answer : OneAnswer} → Within mostTriangles N T → Enough (lentToUndoOne N T out works) → role ≤ 3
     → UndoesOne N T role out works answer out′ works′ → Exactly (ReadingIn Same N T role) (answer .common .refusal)
 accepted-exactly W enough l U =
     outcome-exactly (outcome W enough (omega arith) U) (λ c. chosen-named l c .1) (none-named l)
 
 -- .. and there are such results: an acceptance where there is a reading in the role asked ..
 pub reading-accepted : {N : ℕ} {T : List ℕ} {role : ℕ} {out : Outputs} {works : List (List ℕ)}
-    → Within mostTriangles N T → Enough (undoOneRooms N T out works) → role ≤ 3 → ReadingIn Same N T role
-    → (r : Reading) × UndoesOne N T role out works (one-accepted role r) (writtenReading r out) (map zeros works)
+    → Within mostTriangles N T → Enough (lentToUndoOne N T out works) → role ≤ 3 → ReadingIn Same N T role
+    → (r : Reading) × UndoesOne N T role out works (acceptedReading role r) (writtenReading r out) (map zeros works)
 reading-accepted W enough l R = chosen-accepted W enough (Chosen.named l R)
 
 -- .. and refusal 11 where there is none
 pub no-reading-refused : {N : ℕ} {T : List ℕ} {role : ℕ} {out : Outputs} {works : List (List ℕ)}
-    → Within mostTriangles N T → Enough (undoOneRooms N T out works) → role ≤ 3 → (ReadingIn Same N T role → ⊥)
-    → UndoesOne N T role out works (record { common = refusal 11 0; role = 0 }) out (map zeros works)
+    → Within mostTriangles N T → Enough (lentToUndoOne N T out works) → role ≤ 3 → (ReadingIn Same N T role → ⊥)
+    → UndoesOne N T role out works (oneRefusal 11 0) out (map zeros works)
 no-reading-refused W enough l none = none-refused W enough (NoneChosen.named l none)
 
 -- asked 4: accepted exactly if some role has a reading ..
 pub least-accepted-exactly : {N : ℕ} {T : List ℕ} {out out′ : Outputs} {works works′ : List (List ℕ)}
-    {answer : OneAnswer} → Within mostTriangles N T → Enough (undoOneRooms N T out works)
-    → UndoesOne N T 4 out works answer out′ works′
+    {answer : OneAnswer} → Within mostTriangles N T → Enough (lentToUndoOne N T out works)
+    → UndoesOne N T anyRole out works answer out′ works′
     → Exactly ((role : ℕ) × ReadingIn Same N T role) (answer .common .refusal)
 least-accepted-exactly W enough U = outcome-exactly (outcome W enough (omega arith) U)
     (λ c. (_, chosen-least c .has)) (λ n R. none-least n .none (R .0) (R .1))
 
 -- .. and the role answered is the least that has one
 pub role-is-least : {N : ℕ} {T : List ℕ} {out out′ : Outputs} {works works′ : List (List ℕ)} {answer : OneAnswer}
-    → UndoesOne N T 4 out works answer out′ works′ → answer .common .refusal ≡ 0 → LeastRole Same N T (answer .role)
+    → UndoesOne N T anyRole out works answer out′ works′ → answer .common .refusal ≡ 0 → LeastRole Same N T (answer .role)
 role-is-least U none = chosen-least (one-accepted-found U none .chosen)

@@ -1,49 +1,28 @@
--- `determined`: for each call, two results that satisfy its relation are equal. The first refusal that is given and
--- its least place are one; a list of rules is not both passed and refused; the choice of a role, the returned reading
--- in it and the levels of undo several are one.
-use Prim.Native.Nat.{ℕ, zero, suc, _*_, _%_, _≤_, _<_}
+-- `determined`: for each call, two results that satisfy its relation are equal. Its rows refuse with one number at one
+-- place or are passed (`Refusals`); the choice of a role, the returned reading in it, the levels of undo several and
+-- the mesh that lines say are one.
+use Prim.Native.Nat.{ℕ, zero, suc, _*_, _≤_}
 use native.Mathlib.Omega.{arith}
-use native.Mathlib.Decide.{ℕ-discrete}
 use mathlib.Core.Path.{_≡_, refl, sym, ap, ap₂, _∙_, subst, subst₂}
-use mathlib.Core.Logic.{inl, inr}
-use mathlib.Core.List.{List, [], _∷_, _++_}
+use mathlib.Core.List.{List, [], _∷_}
 use lib.ListN.{length}
 use Rattle.theory.specs.Mesh.{triangles, Same, Proper}
-use Rattle.theory.specs.Reading.{Reading, IsReading, RoleOf, ReadingIn, Returned}
+use Rattle.theory.specs.Reading.{Agreement, Reading, IsReading, RoleOf, ReadingIn, Returned}
 use Rattle.theory.specs.Choice.{LeastRole, Chosen, named, least, NoneChosen}
-use Rattle.theory.specs.Choice.{Several, reached, stopped, undone, sevenPlaces}
-use Rattle.theory.specs.Refusals.{Rule, Room, notThrees, noTriangle, meshRules, noReading}
-use Rattle.theory.specs.Refusals.{LeastPlace, Passed, Refused}
-use Rattle.theory.specs.Calls.{Answer, OneAnswer, SeveralAnswer, Outputs, refusal, accepted}
-use Rattle.theory.specs.Calls.{written, writtenReading, Splits, undoOneRules, UndoesOne, UndoesSeveral}
-use Rattle.theory.specs.Frames.{Frames, mesh, ReadsFrames, WritesFrames}
-use Rattle.theory.specs.Program.{answerLine, readingText, PrintsMesh, Prints, tooLong, notRead, read}
-use Rattle.theory.proofs.Finite.{neither-less, match-size}
+use Rattle.theory.specs.Choice.{Several, reached, stopped, undone}
+use Rattle.theory.specs.Refusals.{Room, notThrees, meshRules, noReading, Passed}
+use Rattle.theory.specs.Calls.{Answer, OneAnswer, SeveralAnswer, Outputs, refusal, oneRefusal, severalRefusal}
+use Rattle.theory.specs.Calls.{severalAccepted, written, writtenReading, acceptedReading}
+use Rattle.theory.specs.Calls.{Splits, undoOneRules, UndoesOne, UndoesSeveral}
+use Rattle.theory.specs.Frames.{FramesAnswer, framesRefusal, framesAccepted, corners, LinesSay}
+use Rattle.theory.specs.Frames.{ReadsFrames, WritesFrames}
+use Rattle.theory.specs.Program.{answerLine, readingText, PrintsMesh, Prints}
+use Rattle.theory.proofs.Finite.{match-size}
 use Rattle.theory.proofs.Splitting.{split-triangles}
+use Rattle.theory.proofs.Agreement.{same-implies}
 use Rattle.theory.proofs.Unique.{returned-unique}
-use Rattle.theory.proofs.Refusals.{passed-proper}
-
--- ---- the first refusal and its place
-
-least-place-unique : {given : ℕ → Type 0} {p q : ℕ} → LeastPlace given p → LeastPlace given q → p ≡ q
-least-place-unique {given} {p} {q} a b =
-    neither-less (λ l. b .before p l (a .here)) (λ l. a .before q l (b .here))
-
--- two refusals by one list of rules have one number and one place
-pub refused-unique : (rules : List Rule) (m p n q : ℕ) → Refused rules m p → Refused rules n q → (m ≡ n) × (p ≡ q)
-unfolding Refused
-refused-unique [] m p n q a b = absurd a
-refused-unique (rule ∷ rules) m p n q (inl a) (inl b) = (a .0 ∙ sym (b .0), least-place-unique (a .1) (b .1))
-refused-unique (rule ∷ rules) m p n q (inl a) (inr b) = absurd (b .0 p (a .1 .here))
-refused-unique (rule ∷ rules) m p n q (inr a) (inl b) = absurd (a .0 q (b .1 .here))
-refused-unique (rule ∷ rules) m p n q (inr a) (inr b) = refused-unique rules m p n q (a .1) (b .1)
-
--- what is passed is not refused
-pub passed-not-refused : (rules : List Rule) (n p : ℕ) → Passed rules → Refused rules n p → ⊥
-unfolding Passed Refused
-passed-not-refused [] n p a b = b
-passed-not-refused (rule ∷ rules) n p a (inl b) = a .0 p (b .1 .here)
-passed-not-refused (rule ∷ rules) n p a (inr b) = passed-not-refused rules n p (a .1) (b .1)
+use Rattle.theory.proofs.Refusals.{least-place-unique, refused-unique, passed-not-refused, passed-front}
+use Rattle.theory.proofs.Refusals.{threes-whole, passed-proper}
 
 -- ---- the role chosen
 
@@ -53,11 +32,13 @@ role-within (RoleOf.centre _) = omega arith
 role-within (RoleOf.corner i l _ _) = omega arith
 
 -- a returned reading is a reading in its role
-pub returned-in : {N role : ℕ} {T : List ℕ} {r : Reading} → Returned Same N T role r → ReadingIn Same N T role
+pub returned-in : {agree : Agreement} {N role : ℕ} {T : List ℕ} {r : Reading} → Returned agree N T role r
+    → ReadingIn agree N T role
 returned-in {r = r} R = record { reading = r; is = R .is; inRole = R .inRole }
 
-least-role-unique : {N : ℕ} {T : List ℕ} {ρ σ : ℕ} → LeastRole Same N T ρ → LeastRole Same N T σ → ρ ≡ σ
-least-role-unique {N} {T} {ρ} {σ} a b =
+least-role-unique : {agree : Agreement} {N : ℕ} {T : List ℕ} {ρ σ : ℕ} → LeastRole agree N T ρ → LeastRole agree N T σ
+    → ρ ≡ σ
+least-role-unique a b =
     least-place-unique (record { here = a .has; before = a .before }) (record { here = b .has; before = b .before })
 
 -- one number asked chooses one role
@@ -77,7 +58,8 @@ chosen-not-refused (least a) (least b) = b .none _ (a .has)
 -- ---- the levels of undo several
 
 -- the coarse mesh has a quarter of the triangles
-pub quarter : {N : ℕ} {T : List ℕ} {r : Reading} → IsReading Same N T r → triangles T ≡ 4 * triangles (r .mesh)
+pub quarter : {agree : Agreement} {N : ℕ} {T : List ℕ} {r : Reading} → IsReading agree N T r
+    → triangles T ≡ 4 * triangles (r .mesh)
 quarter {r = r} R = match-size (R .matched .faces) ∙ split-triangles (r .vertices) (r .mesh)
 
 -- What undo several yields.
@@ -92,43 +74,28 @@ abbrev one-more : ℕ → Yield → Yield
 one-more role y = record { levels = suc (y .levels); roles = role ∷ y .roles; vertices = y .vertices; mesh = y .mesh }
 
 -- undo several leaves one mesh, by one list of roles
-pub several-unique : (allowance : ℕ) {N l m M M′ : ℕ} {T ρs σs C C′ : List ℕ} → Proper N T → 0 < triangles T
+pub several-unique : (allowance : ℕ) {N l m M M′ : ℕ} {T ρs σs C C′ : List ℕ} → Proper N T
     → Several allowance N T l ρs M C → Several allowance N T m σs M′ C′
     → Path Yield (record { levels = l; roles = ρs; vertices = M; mesh = C })
     (record { levels = m; roles = σs; vertices = M′; mesh = C′ })
-several-unique zero P l reached reached = refl
-several-unique (suc n) P l (stopped a) (stopped b) = refl
-several-unique (suc n) P l (stopped a) (undone r b R S) = absurd (a .none _ (b .has))
-several-unique (suc n) P l (undone r b R S) (stopped a) = absurd (a .none _ (b .has))
-several-unique (suc n) {T = T} P l (undone {role = ρ} r a R S)
+several-unique zero P reached reached = refl
+several-unique (suc n) P (stopped a) (stopped b) = refl
+several-unique (suc n) P (stopped a) (undone r b R S) = absurd (a .none _ (b .has))
+several-unique (suc n) P (undone r b R S) (stopped a) = absurd (a .none _ (b .has))
+several-unique (suc n) {T = T} P (undone {role = ρ} r a R S)
     (undone {levels = m} {role = σ} {M = M′} {roles = σs} {C = C′} s b R′ S′) =
     let same-role : ρ ≡ σ = least-role-unique a b in
-    let same-reading : s ≡ r = returned-unique _ T P s r ρ l (rw same-role R′) R in
+    let same-reading : s ≡ r = returned-unique _ T P same-implies s r ρ (rw same-role R′) R in
     ap₂ one-more same-role
-    (several-unique n (R .is .proper) (omega (arith, quarter (R .is))) S
+    (several-unique n (R .is .proper) S
     (subst (λ (q : Reading). Several n (q .vertices) (q .mesh) m σs M′ C′) same-reading S′))
 
 -- ---- what passed rules say
 
--- the rules in front of a longer list are passed too
-pub passed-front : (front back : List Rule) → Passed (front ++ back) → Passed front
-unfolding Passed
-passed-front [] back p = tt
-passed-front (rule ∷ front) back p = (p .0, passed-front front back (p .1))
-
--- where 2, 3 and 6 to 10 are not given, the mesh is proper and has a triangle
-pub judged : (N : ℕ) (T : List ℕ) → ((p : ℕ) → notThrees T .given p → ⊥) → ((p : ℕ) → noTriangle T .given p → ⊥)
-    → Passed (meshRules N T) → Proper N T × (0 < triangles T)
-judged N T threes some passed =
-    (passed-proper N T (go (ℕ-discrete (length T % 3) 0)) passed, more (ℕ-discrete (triangles T) 0))
-  where
-    go : Dec (length T % 3 ≡ 0) → length T ≡ 3 * triangles T
-    go (yes e) = omega arith
-    go (no h) = absurd (threes 0 (h, refl))
-
-    more : Dec (triangles T ≡ 0) → 0 < triangles T
-    more (yes e) = absurd (some 0 (e, refl))
-    more (no h) = omega arith
+-- where 2 and 6 to 10 are not given, the mesh is proper
+pub judged : (N : ℕ) (T : List ℕ) → ((p : ℕ) → notThrees (length T) .given p → ⊥) → Passed (meshRules N T)
+    → Proper N T
+judged N T threes = passed-proper N T (omega (arith, threes-whole (length T) threes))
 
 -- ---- the calls
 
@@ -147,18 +114,17 @@ one-result : {N : ℕ} {T : List ℕ} {asked ρ σ : ℕ} {r s : Reading} (rooms
     → Chosen N T asked ρ → Chosen N T asked σ → Returned Same N T ρ r → Returned Same N T σ s → (ρ ≡ σ) × (r ≡ s)
 unfolding Passed
 one-result {N} {T} {asked} {ρ} {σ} {r} {s} rooms passed c c′ d d′ =
-    let proper : Proper N T × (0 < triangles T) =
-    judged N T (passed .1 .0) (passed .1 .1 .0)
-    (passed-front (meshRules N T) (noReading N T asked ∷ []) (passed .1 .1 .1 .1 .1)) in
+    let proper : Proper N T =
+    judged N T (passed .1 .0) (passed-front (meshRules N T) (noReading N T asked ∷ []) (passed .1 .1 .1 .1 .1)) in
     let same-role : ρ ≡ σ = chosen-unique c c′ in
-    (same-role, returned-unique N T (proper .0) r s ρ (proper .1) d (rw same-role d′))
+    (same-role, returned-unique N T proper same-implies r s ρ d (rw same-role d′))
 
 pub undoes-one-determined : {N : ℕ} {T : List ℕ} {asked : ℕ} {out o p : Outputs} {works w v : List (List ℕ)}
     {a b : OneAnswer}
     → UndoesOne N T asked out works a o w → UndoesOne N T asked out works b p v → (a ≡ b) × (o ≡ p) × (w ≡ v)
 undoes-one-determined (UndoesOne.refuses m i R e f g) (UndoesOne.refuses n j S e′ f′ g′) =
     let same : (m ≡ n) × (i ≡ j) = refused-unique _ m i n j R S in
-    (e ∙ ap₂ (λ n p. record { common = refusal n p; role = 0 }) (same .0) (same .1) ∙ sym e′, f ∙ sym f′, g ∙ sym g′)
+    (e ∙ ap₂ oneRefusal (same .0) (same .1) ∙ sym e′, f ∙ sym f′, g ∙ sym g′)
 undoes-one-determined (UndoesOne.refuses m i R e f g) (UndoesOne.accepts σ s S c d e′ f′ g′) =
     absurd (passed-not-refused _ m i S R)
 undoes-one-determined (UndoesOne.accepts ρ r R c d e f g) (UndoesOne.refuses n j S e′ f′ g′) =
@@ -166,13 +132,10 @@ undoes-one-determined (UndoesOne.accepts ρ r R c d e f g) (UndoesOne.refuses n 
 undoes-one-determined {N} {T} {out = out} (UndoesOne.accepts ρ r R c d e f g)
     (UndoesOne.accepts σ s S c′ d′ e′ f′ g′) =
     let same : (ρ ≡ σ) × (r ≡ s) = one-result _ R c c′ d d′ in (
-      e ∙ ap₂ one-accepted (same .0) (same .1) ∙ sym e′,
+      e ∙ ap₂ acceptedReading (same .0) (same .1) ∙ sym e′,
       f ∙ ap (λ q. writtenReading q out) (same .1) ∙ sym f′,
       g ∙ sym g′,
     )
-  where
-    one-accepted : ℕ → Reading → OneAnswer
-    one-accepted role q = record { common = accepted (q .vertices) (triangles (q .mesh)); role = role }
 
 pub undoes-several-determined : {N : ℕ} {T : List ℕ} {asked : ℕ} {out o p : List ℕ} {works w v : List (List ℕ)}
     {a b : SeveralAnswer} → UndoesSeveral N T asked out works a o w → UndoesSeveral N T asked out works b p v
@@ -180,36 +143,46 @@ pub undoes-several-determined : {N : ℕ} {T : List ℕ} {asked : ℕ} {out o p 
 unfolding Passed
 undoes-several-determined (UndoesSeveral.refuses m i R e f g) (UndoesSeveral.refuses n j S e′ f′ g′) =
     let same : (m ≡ n) × (i ≡ j) = refused-unique _ m i n j R S in
-    (e ∙ ap₂ several-refused (same .0) (same .1) ∙ sym e′, f ∙ sym f′, g ∙ sym g′)
-  where
-    several-refused : ℕ → ℕ → SeveralAnswer
-    several-refused n p = record { common = refusal n p; levels = 0; roles = sevenPlaces [] }
+    (e ∙ ap₂ severalRefusal (same .0) (same .1) ∙ sym e′, f ∙ sym f′, g ∙ sym g′)
 undoes-several-determined (UndoesSeveral.refuses m i R e f g) (UndoesSeveral.accepts l M ρs C S c e′ f′ g′) =
     absurd (passed-not-refused _ m i S R)
 undoes-several-determined (UndoesSeveral.accepts l M ρs C R c e f g) (UndoesSeveral.refuses n j S e′ f′ g′) =
     absurd (passed-not-refused _ n j R S)
 undoes-several-determined {N} {T} {asked} {out} (UndoesSeveral.accepts l M ρs C R c e f g)
     (UndoesSeveral.accepts m M′ σs C′ S c′ e′ f′ g′) =
-    let proper : Proper N T × (0 < triangles T) = judged N T (R .1 .0) (R .1 .1 .0) (R .1 .1 .1 .1 .1) in
-    let same : Path Yield _ _ = several-unique asked (proper .0) (proper .1) c c′ in
-    (e ∙ ap several-accepted same ∙ sym e′, f ∙ ap (λ y. written (y .mesh) out) same ∙ sym f′, g ∙ sym g′)
+    let proper : Proper N T = judged N T (R .1 .0) (R .1 .1 .1 .1 .1) in
+    let same : Path Yield _ _ = several-unique asked proper c c′ in
+    (e ∙ ap answered same ∙ sym e′, f ∙ ap (λ y. written (y .mesh) out) same ∙ sym f′, g ∙ sym g′)
   where
-    several-accepted : Yield → SeveralAnswer
-    several-accepted y = record {
-      common = accepted (y .vertices) (triangles (y .mesh));
-      levels = y .levels;
-      roles = sevenPlaces (y .roles);
-    }
+    answered : Yield → SeveralAnswer
+    answered y = severalAccepted (y .levels) (y .roles) (y .vertices) (triangles (y .mesh))
 
-pub reads-frames-determined : {bytes out o p : List ℕ} {a b : Answer}
+-- lines say one mesh
+pub lines-say-one : {bytes T S : List ℕ} {N M : ℕ} → LinesSay bytes N T → LinesSay bytes M S → (N ≡ M) × (T ≡ S)
+lines-say-one {T = T} {S} a b =
+    let same : corners T ≡ corners S = sym (a .later) ∙ b .later in
+    (sym (a .first) ∙ b .first, cc)
+
+pub reads-frames-determined : {bytes out o p : List ℕ} {a b : FramesAnswer}
     → ReadsFrames bytes out a o → ReadsFrames bytes out b p → (a ≡ b) × (o ≡ p)
-reads-frames-determined r s = (r .answers ∙ sym (s .answers), r .leaves ∙ sym (s .leaves))
+reads-frames-determined (ReadsFrames.refuses m i R e f) (ReadsFrames.refuses n j S e′ f′) =
+    let same : (m ≡ n) × (i ≡ j) = refused-unique _ m i n j R S in
+    (e ∙ ap₂ framesRefusal (same .0) (same .1) ∙ sym e′, f ∙ sym f′)
+reads-frames-determined (ReadsFrames.refuses m i R e f) (ReadsFrames.accepts M S P l e′ f′) =
+    absurd (passed-not-refused _ m i P R)
+reads-frames-determined (ReadsFrames.accepts N T P l e f) (ReadsFrames.refuses n j S e′ f′) =
+    absurd (passed-not-refused _ n j P S)
+reads-frames-determined {out = out} (ReadsFrames.accepts N T P l e f) (ReadsFrames.accepts M S Q l′ e′ f′) =
+    let same : (N ≡ M) × (T ≡ S) = lines-say-one l l′ in (
+      e ∙ ap₂ (λ n U. framesAccepted n (triangles U)) (same .0) (same .1) ∙ sym e′,
+      f ∙ ap (λ U. written U out) (same .1) ∙ sym f′,
+    )
 
-pub writes-frames-determined : {N : ℕ} {T out o p : List ℕ} {a b : Answer}
+pub writes-frames-determined : {N : ℕ} {T out o p : List ℕ} {a b : FramesAnswer}
     → WritesFrames N T out a o → WritesFrames N T out b p → (a ≡ b) × (o ≡ p)
 writes-frames-determined (WritesFrames.refuses m i R e f) (WritesFrames.refuses n j S e′ f′) =
     let same : (m ≡ n) × (i ≡ j) = refused-unique _ m i n j R S in
-    (e ∙ ap₂ refusal (same .0) (same .1) ∙ sym e′, f ∙ sym f′)
+    (e ∙ ap₂ framesRefusal (same .0) (same .1) ∙ sym e′, f ∙ sym f′)
 writes-frames-determined (WritesFrames.refuses m i R e f) (WritesFrames.accepts S e′ f′) =
     absurd (passed-not-refused _ m i S R)
 writes-frames-determined (WritesFrames.accepts R e f) (WritesFrames.refuses n j S e′ f′) =
@@ -234,26 +207,11 @@ prints-mesh-determined (PrintsMesh.accepts ρ r R c d e) (PrintsMesh.accepts σ 
 
 pub prints-determined : {bytes text other : List ℕ} {asked : ℕ} → Prints bytes asked text → Prints bytes asked other
     → text ≡ other
-prints-determined (tooLong l e) (tooLong m f) = e ∙ sym f
-prints-determined (tooLong l e) (notRead n p m g f) = absurd (omega arith)
-prints-determined (tooLong l e) (read N T m g f) = absurd (omega arith)
-prints-determined (notRead n p l g e) (tooLong m f) = absurd (omega arith)
-prints-determined (notRead m i l g e) (notRead n j k h f) =
-    let same : Frames.refused m i ≡ Frames.refused n j = sym g ∙ h in
-    let number : m ≡ n = cc in
-    let place : i ≡ j = cc in
-    e ∙ ap₂ (λ n p. answerLine n 0 p) number place ∙ sym f
-prints-determined (notRead n p l g e) (read N T m h f) =
-    let clash : Frames.refused n p ≡ mesh N T = sym g ∙ h in
-    let z : _≡_ {A = ℕ} 0 1 = cc in
-    absurd (omega arith)
-prints-determined (read N T l g e) (tooLong m f) = absurd (omega arith)
-prints-determined (read N T l g e) (notRead n p m h f) =
-    let clash : Frames.refused n p ≡ mesh N T = sym h ∙ g in
-    let z : _≡_ {A = ℕ} 0 1 = cc in
-    absurd (omega arith)
-prints-determined {other = other} {asked} (read N T l g e) (read M S m h f) =
-    let same : mesh N T ≡ mesh M S = sym g ∙ h in
-    let number : M ≡ N = cc in
-    let list : S ≡ T = cc in
-    prints-mesh-determined e (subst₂ (λ M S. PrintsMesh M S asked other) number list f)
+prints-determined (Prints.refuses m i R e) (Prints.refuses n j S f) =
+    let same : (m ≡ n) × (i ≡ j) = refused-unique _ m i n j R S in
+    e ∙ ap₂ (λ n p. answerLine n 0 p) (same .0) (same .1) ∙ sym f
+prints-determined (Prints.refuses m i R e) (Prints.reads M S P l f) = absurd (passed-not-refused _ m i P R)
+prints-determined (Prints.reads N T P l e) (Prints.refuses n j S f) = absurd (passed-not-refused _ n j P S)
+prints-determined {other = other} {asked} (Prints.reads N T P l e) (Prints.reads M S Q l′ f) =
+    let same : (M ≡ N) × (S ≡ T) = lines-say-one l′ l in
+    prints-mesh-determined e (subst₂ (λ M S. PrintsMesh M S asked other) (same .0) (same .1) f)

@@ -6,7 +6,6 @@ use native.Mathlib.Decide.{decLt}
 use native.Mathlib.Omega.{arith}
 use mathlib.Core.Path.{_≡_, refl, sym, ap, _∙_}
 use mathlib.Core.Bool.{Bool, true, false, _&&_, _||_, and-eq-true-iff}
-use mathlib.Mathlib.Data.Bool.Basic.{or-eq-false-eq-eq-false-and-eq-false as or-eq-false-iff}
 use mathlib.Core.Option.{Option, none, some}
 use mathlib.Core.List.{List, [], _∷_, _++_, append-nil, append-assoc}
 use borrow.Author.Tests.{lt-ltb, le-ltb, le-leb, lt-leb, eq-eqb, leb-true, ltb-false, eqb-true}
@@ -17,7 +16,8 @@ use Rattle.theory.specs.Limits.{mostTriangles, mostVertices}
 use Rattle.theory.specs.Mesh.{at, triangles}
 use Rattle.theory.specs.Frames.{digit, twoDigits, fourDigits, line, meshLine, triangleLine, triangleLines}
 use Rattle.theory.specs.Frames.{frames, digitValue, Taken, takeDigits, takeNumbers, takeEnd, takeLine}
-use Rattle.theory.specs.Frames.{Corners, corners, wrongLine, takeTriangles, meshOf, readFrames, mesh}
+use Rattle.theory.specs.Frames.{Corners, corners, wrongLine, takeTriangles}
+use Rattle.theory.proofs.Reader.{within-limits, mesh, meshOf, readFrames}
 
 -- ---- tests and options
 
@@ -45,12 +45,6 @@ within : (low n high : ℕ) → leb low n && leb n high ≡ true → (low ≤ n)
 within low n high e =
     let both : (leb low n ≡ true) × (leb n high ≡ true) = and-eq-true-iff (leb low n) (leb n high) .0 e in
     (leb-true low n both.0, leb-true n high both.1)
-
--- two numbers of which neither passes a test of being above its limit are within their limits
-within-limits : (m n a b : ℕ) → ltb m a || ltb n b ≡ false → (a ≤ m) × (b ≤ n)
-within-limits m n a b e =
-    let neither : (ltb m a ≡ false) × (ltb n b ≡ false) = or-eq-false-iff (ltb m a) (ltb n b) .0 e in
-    (ltb-false m a neither.0, ltb-false n b neither.1)
 
 -- ---- digits
 

@@ -3,16 +3,14 @@
 use Prim.Native.Nat.{ℕ, _+_, _*_, _/_, _%_, _<_}
 use native.Mathlib.Decide.{ℕ-discrete}
 use native.Mathlib.Omega.{arith}
-use mathlib.Core.Path.{_≡_, refl, sym, ap, _∙_, subst, subst₂}
+use mathlib.Core.Path.{_≡_, refl, sym, ap, _∙_, subst}
 use mathlib.Core.Logic.{_≢_, _⊎_, inl, inr}
 use mathlib.Core.List.{List}
 use lib.ListN.{length}
 use Rattle.theory.specs.Mesh.{at, triangles, On, HasEdge, Boundary, Regular, Same, Share, Reach, here, step}
 use Rattle.theory.specs.Mesh.{OtherwiseProper}
-use Rattle.theory.specs.Splitting.{next}
 use Rattle.theory.specs.Reading.{Across}
 use Rattle.theory.proofs.Corners.{triangle-place, corner-inside, triangle-inside, corner-third, corner-fourth}
-use Rattle.theory.proofs.Corners.{before, before-place, before-next, corners-follow}
 
 -- ---- the vertices at the corners of a triangle
 
@@ -47,27 +45,6 @@ three-vertices T {k} {a} {b} {c} {d} o p q s m n l = go (ℕ-discrete d a) (ℕ-
     go (yes e) _ = inl e
     go (no f) (yes e) = inr (inl e)
     go (no f) (no g) = inr (inr (three-on T k a b c d o p q m n l s f g))
-
--- an edge that triangle l has in common with triangle k is the side of k that ends at some corner
-pub edge-side : {T : List ℕ} {k l u v : ℕ} → HasEdge T k u v → HasEdge T l u v
-    → (i : ℕ) × (i < 3) × HasEdge T l (at T (3 * k + (i + 2) % 3)) (at T (3 * k + i))
-edge-side {T} {k} {l} e f =
-    go (corners-follow (e .oneEnd .corner) (e .otherEnd .corner) (e .oneEnd .triangle ∙ sym (e .otherEnd .triangle))
-    (corners-apart (e .oneEnd) (e .otherEnd) (e .differ)))
-  where
-    ends : {x y : ℕ} (o : On T k x) (p : On T k y) → next (o .corner) ≡ p .corner → HasEdge T l x y
-        → (i : ℕ) × (i < 3) × HasEdge T l (at T (3 * k + (i + 2) % 3)) (at T (3 * k + i))
-    ends {x} o p q h = (p .corner % 3, omega arith, subst₂ (HasEdge T l) start (sym (on-place p)) h)
-      where
-        start : x ≡ at T (3 * k + (p .corner % 3 + 2) % 3)
-        start = sym (o .holds) ∙ ap (at T) (sym (before-place (p .corner) k (p .triangle) ∙ ap before (sym q)
-            ∙ before-next (o .corner)))
-
-    go : (next (e .oneEnd .corner) ≡ e .otherEnd .corner) ⊎ (next (e .otherEnd .corner) ≡ e .oneEnd .corner)
-        → (i : ℕ) × (i < 3) × HasEdge T l (at T (3 * k + (i + 2) % 3)) (at T (3 * k + i))
-    go (inl q) = ends (e .oneEnd) (e .otherEnd) q f
-    go (inr q) = ends (e .otherEnd) (e .oneEnd) q
-        (record { differ = λ z. f .differ (sym z); oneEnd = f .otherEnd; otherEnd = f .oneEnd })
 
 -- ---- the two triangles at a regular edge
 
@@ -123,6 +100,11 @@ same-refl T k = record { there = λ v o. o; back = λ v o. o }
 -- sameness goes both ways
 pub same-sym : {T : List ℕ} {k : ℕ} {S : List ℕ} {l : ℕ} → Same T k S l → Same S l T k
 same-sym s = record { there = s .back; back = s .there }
+
+-- and from one to the next
+pub same-trans : {T : List ℕ} {k : ℕ} {S : List ℕ} {l : ℕ} {U : List ℕ} {m : ℕ} → Same T k S l → Same S l U m
+    → Same T k U m
+same-trans s t = record { there = λ v o. t .there v (s .there v o); back = λ v o. s .back v (t .back v o) }
 
 -- a shared edge is shared both ways
 pub share-sym : {T : List ℕ} {k l : ℕ} → Share T k l → Share T l k

@@ -1,5 +1,5 @@
 -- Numberings: lists of chosen numbers, one-to-one relations and the matches they hold, two numberings of the same
--- things and the match between them, numbering upward, and the numbering by counting.
+-- things and the match between them, numbering upward, and the numbering by counting, which gives ranks.
 use Prim.Native.Nat.{ℕ, zero, suc, _≤_, _<_}
 use native.Mathlib.Decide.{ℕ-discrete, decLt}
 use native.Mathlib.Omega.{arith}
@@ -179,3 +179,38 @@ count-numbers Q test n pass has = record {
   where
     hit : (y : ℕ) → (i : ℕ) × (i < n) × T (test i) × (count test i ≡ y) → (i : ℕ) × Q i × (count test i ≡ y)
     hit y (i, l, t, e) = (i, has i l t, e)
+
+-- ---- ranks
+
+-- a table holds the ranks of the numbers with Q: they are numbered upward, by the numbers below n
+pub record Ranks (Q : ℕ → Type 0) (rank : List ℕ) (n : ℕ) : Type 0 where
+  pub below : (i : ℕ) → Q i → at rank i < n
+  pub upward : Upward Q (at rank)
+  pub onto : (y : ℕ) → y < n → (i : ℕ) × Q i × (at rank i ≡ y)
+
+-- different numbers have different ranks
+pub ranks-apart : {Q : ℕ → Type 0} {rank : List ℕ} {n : ℕ} → Ranks Q rank n
+    → (i j : ℕ) → Q i → Q j → at rank i ≡ at rank j → i ≡ j
+ranks-apart R = upward-apart (R .upward)
+
+-- so the ranks are a numbering
+pub ranks-numbers : {Q : ℕ → Type 0} {rank : List ℕ} {n : ℕ} → Ranks Q rank n → Numbers Q (at rank) n
+ranks-numbers R = record { below = R .below; apart = ranks-apart R; onto = R .onto }
+
+-- the ranks of what passes a test are how many pass it before
+pub count-ranks : {Q : ℕ → Type 0} {rank : List ℕ} (test : ℕ → Bool) (n : ℕ) → ((i : ℕ) → Q i → (i < n) × T (test i))
+    → ((i : ℕ) → i < n → T (test i) → Q i) → ((i : ℕ) → i < n → at rank i ≡ count test i) → Ranks Q rank (count test n)
+count-ranks {Q} {rank} test n pass has entry = record {
+  below = λ i q. rw (held i q) (counts .below i q);
+  upward = record { grows = λ i j p q l. rw (held i p, held j q) (count-grows test i j l (pass i p .1)) };
+  onto = λ y l. hit y (counts .onto y l);
+}
+  where
+    counts : Numbers Q (count test) (count test n)
+    counts = count-numbers Q test n pass has
+
+    held : (i : ℕ) → Q i → at rank i ≡ count test i
+    held i q = entry i (pass i q .0)
+
+    hit : (y : ℕ) → (i : ℕ) × Q i × (count test i ≡ y) → (i : ℕ) × Q i × (at rank i ≡ y)
+    hit y (i, q, e) = (i, q, held i q ∙ e)

@@ -1,5 +1,5 @@
--- A match, a reading, a role and the returned reading are decided, for the agreement "the same three vertices", as
--- in `Decide`: a Bool test that computes (`..Test`), a proof that it passes only where it is so (`..-sound`) and one
+-- A match, a reading, a role and the returned reading are decided, for any agreement that a test decides, as in
+-- `Decide`: a Bool test that computes (`..Test`), a proof that it passes only where it is so (`..-sound`) and one
 -- that it passes wherever it is so (`..-complete`), and the decisions made from these (`isReading?`, `returned?`).
 use Prim.Native.Nat.{ℕ, zero, suc, _+_, _*_, _/_, _%_, _<_}
 use native.Mathlib.Omega.{arith}
@@ -11,7 +11,7 @@ use lib.ListN.{length}
 use Rattle.theory.specs.Mesh.{at, triangles, On, Same}
 use Rattle.theory.specs.Counting.{count, firstFrom}
 use Rattle.theory.specs.Splitting.{sameEdge, firstOn, isFirst, edges, edgeNo, four, fours, split}
-use Rattle.theory.specs.Reading.{Match, Matched, renamed, Reading, IsReading, Kept, Centre, Across}
+use Rattle.theory.specs.Reading.{Agreement, Match, Matched, renamed, Reading, IsReading, Kept, Centre, Across}
 use Rattle.theory.specs.Reading.{RoleOf, centre, corner, Returned}
 use Rattle.theory.proofs.Tests.{
   decided,
@@ -84,81 +84,98 @@ matchTest-complete f m n F =
 
 -- ---- Matched
 
--- each triangle, renamed, is the same as its match
-unfoldable pub agreedTest : List ℕ → List ℕ → List ℕ → List ℕ → Bool
-unfolding allBelow sameTest renamed
-agreedTest f g T S =
+-- A test of two triangles ..
+abbrev pub AgreementTest : Type 0
+AgreementTest = List ℕ → ℕ → List ℕ → ℕ → Bool
+
+-- .. passes exactly where they agree
+pub record Decides (agree : Agreement) (test : AgreementTest) : Type 0 where
+  pub sound : (T : List ℕ) (k : ℕ) (S : List ℕ) (l : ℕ) → So (test T k S l) → agree T k S l
+  pub complete : (T : List ℕ) (k : ℕ) (S : List ℕ) (l : ℕ) → agree T k S l → So (test T k S l)
+
+-- as `sameTest` does for "the same three vertices"
+pub same-decided : Decides Same sameTest
+same-decided = record { sound = sameTest-sound; complete = sameTest-complete }
+
+-- each triangle, renamed, agrees with its match
+unfoldable pub agreedTest : AgreementTest → List ℕ → List ℕ → List ℕ → List ℕ → Bool
+unfolding allBelow renamed
+agreedTest test f g T S =
     let there : List ℕ = renamed f T in
-    allBelow (λ k. sameTest there k S (at g k)) (triangles T)
+    allBelow (λ k. test there k S (at g k)) (triangles T)
 
-agreedTest-sound : (f g T S : List ℕ) → So (agreedTest f g T S)
-    → (k : ℕ) → k < triangles T → Same (renamed f T) k S (at g k)
-unfolding agreedTest
-agreedTest-sound f g T S t k l = sameTest-sound (renamed f T) k S (at g k) (allBelow-sound _ (triangles T) t k l)
-
-agreedTest-complete : (f g T S : List ℕ) → ((k : ℕ) → k < triangles T → Same (renamed f T) k S (at g k))
-    → So (agreedTest f g T S)
-unfolding agreedTest
-agreedTest-complete f g T S agreed =
-    allBelow-complete _ (triangles T) (λ k l. sameTest-complete (renamed f T) k S (at g k) (agreed k l))
-
--- both are matches, and matched triangles are the same
-unfoldable pub matchedTest : List ℕ → List ℕ → ℕ → List ℕ → ℕ → List ℕ → Bool
+-- both are matches, and matched triangles agree
+unfoldable pub matchedTest : AgreementTest → List ℕ → List ℕ → ℕ → List ℕ → ℕ → List ℕ → Bool
 unfolding matchTest agreedTest
-matchedTest f g N T M S =
-    matchTest f N M && (matchTest g (triangles T) (triangles S) && agreedTest f g T S)
+matchedTest test f g N T M S =
+    matchTest f N M && (matchTest g (triangles T) (triangles S) && agreedTest test f g T S)
 
-pub matchedTest-sound : (f g : List ℕ) (N : ℕ) (T : List ℕ) (M : ℕ) (S : List ℕ)
-    → So (matchedTest f g N T M S) → Matched Same f g N T M S
-unfolding matchedTest
-matchedTest-sound f g N T M S t =
-    go (and₃-sound (matchTest f N M) (matchTest g (triangles T) (triangles S)) (agreedTest f g T S) t)
-  where
-    go : So (matchTest f N M) × So (matchTest g (triangles T) (triangles S)) × So (agreedTest f g T S)
-        → Matched Same f g N T M S
-    go (a, b, c) = record {
-      vertices = matchTest-sound f N M a;
-      faces = matchTest-sound g (triangles T) (triangles S) b;
-      agreed = agreedTest-sound f g T S c;
-    }
+module _ {agree : Agreement} {test : AgreementTest} (D : Decides agree test) where
+  agreedTest-sound : (f g T S : List ℕ) → So (agreedTest test f g T S)
+      → (k : ℕ) → k < triangles T → agree (renamed f T) k S (at g k)
+  unfolding agreedTest
+  agreedTest-sound f g T S t k l = D .sound (renamed f T) k S (at g k) (allBelow-sound _ (triangles T) t k l)
 
-pub matchedTest-complete : (f g : List ℕ) (N : ℕ) (T : List ℕ) (M : ℕ) (S : List ℕ)
-    → Matched Same f g N T M S → So (matchedTest f g N T M S)
-unfolding matchedTest
-matchedTest-complete f g N T M S F =
-    and₃-complete (matchTest f N M) (matchTest g (triangles T) (triangles S)) (agreedTest f g T S)
-    (matchTest-complete f N M (F .vertices)) (matchTest-complete g (triangles T) (triangles S) (F .faces))
-    (agreedTest-complete f g T S (F .agreed))
+  agreedTest-complete : (f g T S : List ℕ) → ((k : ℕ) → k < triangles T → agree (renamed f T) k S (at g k))
+      → So (agreedTest test f g T S)
+  unfolding agreedTest
+  agreedTest-complete f g T S agreed =
+      allBelow-complete _ (triangles T) (λ k l. D .complete (renamed f T) k S (at g k) (agreed k l))
+
+  pub matchedTest-sound : (f g : List ℕ) (N : ℕ) (T : List ℕ) (M : ℕ) (S : List ℕ)
+      → So (matchedTest test f g N T M S) → Matched agree f g N T M S
+  unfolding matchedTest
+  matchedTest-sound f g N T M S t =
+      go (and₃-sound (matchTest f N M) (matchTest g (triangles T) (triangles S)) (agreedTest test f g T S) t)
+    where
+      go : So (matchTest f N M) × So (matchTest g (triangles T) (triangles S)) × So (agreedTest test f g T S)
+          → Matched agree f g N T M S
+      go (a, b, c) = record {
+        vertices = matchTest-sound f N M a;
+        faces = matchTest-sound g (triangles T) (triangles S) b;
+        agreed = agreedTest-sound f g T S c;
+      }
+
+  pub matchedTest-complete : (f g : List ℕ) (N : ℕ) (T : List ℕ) (M : ℕ) (S : List ℕ)
+      → Matched agree f g N T M S → So (matchedTest test f g N T M S)
+  unfolding matchedTest
+  matchedTest-complete f g N T M S F =
+      and₃-complete (matchTest f N M) (matchTest g (triangles T) (triangles S)) (agreedTest test f g T S)
+      (matchTest-complete f N M (F .vertices)) (matchTest-complete g (triangles T) (triangles S) (F .faces))
+      (agreedTest-complete f g T S (F .agreed))
 
 -- ---- IsReading
 
 -- the coarse mesh is proper, and the input is matched onto its splitting
-unfoldable pub isReadingTest : ℕ → List ℕ → Reading → Bool
+unfoldable pub isReadingTest : AgreementTest → ℕ → List ℕ → Reading → Bool
 unfolding properTest matchedTest split fours four edgeNo edges isFirst firstOn sameEdge count firstFrom
-isReadingTest N T r =
+isReadingTest test N T r =
     properTest (r .vertices) (r .mesh)
-    && matchedTest (r .vertexMap) (r .triangleMap) N T (r .vertices + edges (r .mesh)) (split (r .vertices) (r .mesh))
+    && matchedTest test (r .vertexMap) (r .triangleMap) N T (r .vertices + edges (r .mesh))
+    (split (r .vertices) (r .mesh))
 
-pub isReadingTest-sound : (N : ℕ) (T : List ℕ) (r : Reading) → So (isReadingTest N T r) → IsReading Same N T r
-unfolding isReadingTest
-isReadingTest-sound N T r t = go (and-sound (properTest (r .vertices) (r .mesh)) _ t)
-  where
-    go : So (properTest (r .vertices) (r .mesh)) × So (matchedTest (r .vertexMap) (r .triangleMap) N T
-        (r .vertices + edges (r .mesh)) (split (r .vertices) (r .mesh))) → IsReading Same N T r
-    go (p, m) = record {
-      proper = properTest-sound (r .vertices) (r .mesh) p;
-      matched = matchedTest-sound (r .vertexMap) (r .triangleMap) N T _ _ m;
-    }
+module _ {agree : Agreement} {test : AgreementTest} (D : Decides agree test) where
+  pub isReadingTest-sound : (N : ℕ) (T : List ℕ) (r : Reading) → So (isReadingTest test N T r) → IsReading agree N T r
+  unfolding isReadingTest
+  isReadingTest-sound N T r t = go (and-sound (properTest (r .vertices) (r .mesh)) _ t)
+    where
+      go : So (properTest (r .vertices) (r .mesh)) × So (matchedTest test (r .vertexMap) (r .triangleMap) N T
+          (r .vertices + edges (r .mesh)) (split (r .vertices) (r .mesh))) → IsReading agree N T r
+      go (p, m) = record {
+        proper = properTest-sound (r .vertices) (r .mesh) p;
+        matched = matchedTest-sound D (r .vertexMap) (r .triangleMap) N T _ _ m;
+      }
 
-pub isReadingTest-complete : (N : ℕ) (T : List ℕ) (r : Reading) → IsReading Same N T r → So (isReadingTest N T r)
-unfolding isReadingTest
-isReadingTest-complete N T r R =
-    and-complete (properTest (r .vertices) (r .mesh)) _ (properTest-complete (r .vertices) (r .mesh) (R .proper))
-    (matchedTest-complete (r .vertexMap) (r .triangleMap) N T _ _ (R .matched))
+  pub isReadingTest-complete : (N : ℕ) (T : List ℕ) (r : Reading) → IsReading agree N T r
+      → So (isReadingTest test N T r)
+  unfolding isReadingTest
+  isReadingTest-complete N T r R =
+      and-complete (properTest (r .vertices) (r .mesh)) _ (properTest-complete (r .vertices) (r .mesh) (R .proper))
+      (matchedTest-complete D (r .vertexMap) (r .triangleMap) N T _ _ (R .matched))
 
-unfoldable pub isReading? : (N : ℕ) (T : List ℕ) (r : Reading) → Dec (IsReading Same N T r)
-unfolding isReadingTest
-isReading? N T r = decided (isReadingTest N T r) (isReadingTest-sound N T r) (isReadingTest-complete N T r)
+  unfoldable pub isReading? : (N : ℕ) (T : List ℕ) (r : Reading) → Dec (IsReading agree N T r)
+  unfolding isReadingTest
+  isReading? N T r = decided (isReadingTest test N T r) (isReadingTest-sound N T r) (isReadingTest-complete N T r)
 
 -- ---- RoleOf
 
@@ -330,46 +347,47 @@ rowsTest-complete T r rows =
 -- ---- Returned
 
 -- a reading in the role, the kept vertices and the centres upward, and the rows
-unfoldable pub returnedTest : ℕ → List ℕ → ℕ → Reading → Bool
+unfoldable pub returnedTest : AgreementTest → ℕ → List ℕ → ℕ → Reading → Bool
 unfolding isReadingTest roleTest upwardTest rowsTest
-returnedTest N T role r =
-    isReadingTest N T r
+returnedTest test N T role r =
+    isReadingTest test N T r
     && (roleTest T r 0 role
     && (upwardTest (keptTest r) (r .vertexMap) && (upwardTest (centreTest r) (r .triangleMap) && rowsTest T r)))
 
-pub returnedTest-sound : (N : ℕ) (T : List ℕ) (role : ℕ) (r : Reading) → So (returnedTest N T role r)
-    → Returned Same N T role r
-unfolding returnedTest
-returnedTest-sound N T role r t =
-    go (and₅-sound (isReadingTest N T r) (roleTest T r 0 role) (upwardTest (keptTest r) (r .vertexMap))
-    (upwardTest (centreTest r) (r .triangleMap)) (rowsTest T r) t)
-  where
-    go : So (isReadingTest N T r) × So (roleTest T r 0 role) × So (upwardTest (keptTest r) (r .vertexMap))
-        × So (upwardTest (centreTest r) (r .triangleMap)) × So (rowsTest T r) → Returned Same N T role r
-    go (a, b, c, d, e) = record {
-      is = isReadingTest-sound N T r a;
-      inRole = roleTest-sound T r 0 role b;
-      keptUpward = λ u v p q. upwardTest-sound (keptTest r) (r .vertexMap) c u v (q .inside)
-          (keptTest-complete r u p) (keptTest-complete r v q);
-      centresUpward = λ j k p q. upwardTest-sound (centreTest r) (r .triangleMap) d j k (q .inside)
-          (centreTest-complete r j p) (centreTest-complete r k q);
-      rows = rowsTest-sound T r e;
-    }
+module _ {agree : Agreement} {test : AgreementTest} (D : Decides agree test) where
+  pub returnedTest-sound : (N : ℕ) (T : List ℕ) (role : ℕ) (r : Reading) → So (returnedTest test N T role r)
+      → Returned agree N T role r
+  unfolding returnedTest
+  returnedTest-sound N T role r t =
+      go (and₅-sound (isReadingTest test N T r) (roleTest T r 0 role) (upwardTest (keptTest r) (r .vertexMap))
+      (upwardTest (centreTest r) (r .triangleMap)) (rowsTest T r) t)
+    where
+      go : So (isReadingTest test N T r) × So (roleTest T r 0 role) × So (upwardTest (keptTest r) (r .vertexMap))
+          × So (upwardTest (centreTest r) (r .triangleMap)) × So (rowsTest T r) → Returned agree N T role r
+      go (a, b, c, d, e) = record {
+        is = isReadingTest-sound D N T r a;
+        inRole = roleTest-sound T r 0 role b;
+        keptUpward = λ u v p q. upwardTest-sound (keptTest r) (r .vertexMap) c u v (q .inside)
+            (keptTest-complete r u p) (keptTest-complete r v q);
+        centresUpward = λ j k p q. upwardTest-sound (centreTest r) (r .triangleMap) d j k (q .inside)
+            (centreTest-complete r j p) (centreTest-complete r k q);
+        rows = rowsTest-sound T r e;
+      }
 
-pub returnedTest-complete : (N : ℕ) (T : List ℕ) (role : ℕ) (r : Reading) → Returned Same N T role r
-    → So (returnedTest N T role r)
-unfolding returnedTest
-returnedTest-complete N T role r R =
-    and₅-complete (isReadingTest N T r) (roleTest T r 0 role) (upwardTest (keptTest r) (r .vertexMap))
-    (upwardTest (centreTest r) (r .triangleMap)) (rowsTest T r)
-    (isReadingTest-complete N T r (R .is)) (roleTest-complete T r 0 role (R .inRole))
-    (upwardTest-complete (keptTest r) (r .vertexMap)
-    (λ u v p q. R .keptUpward u v (keptTest-sound r u p) (keptTest-sound r v q)))
-    (upwardTest-complete (centreTest r) (r .triangleMap)
-    (λ j k p q. R .centresUpward j k (centreTest-sound r j p) (centreTest-sound r k q)))
-    (rowsTest-complete T r (R .rows))
+  pub returnedTest-complete : (N : ℕ) (T : List ℕ) (role : ℕ) (r : Reading) → Returned agree N T role r
+      → So (returnedTest test N T role r)
+  unfolding returnedTest
+  returnedTest-complete N T role r R =
+      and₅-complete (isReadingTest test N T r) (roleTest T r 0 role) (upwardTest (keptTest r) (r .vertexMap))
+      (upwardTest (centreTest r) (r .triangleMap)) (rowsTest T r)
+      (isReadingTest-complete D N T r (R .is)) (roleTest-complete T r 0 role (R .inRole))
+      (upwardTest-complete (keptTest r) (r .vertexMap)
+      (λ u v p q. R .keptUpward u v (keptTest-sound r u p) (keptTest-sound r v q)))
+      (upwardTest-complete (centreTest r) (r .triangleMap)
+      (λ j k p q. R .centresUpward j k (centreTest-sound r j p) (centreTest-sound r k q)))
+      (rowsTest-complete T r (R .rows))
 
-unfoldable pub returned? : (N : ℕ) (T : List ℕ) (role : ℕ) (r : Reading) → Dec (Returned Same N T role r)
-unfolding returnedTest
-returned? N T role r =
-    decided (returnedTest N T role r) (returnedTest-sound N T role r) (returnedTest-complete N T role r)
+  unfoldable pub returned? : (N : ℕ) (T : List ℕ) (role : ℕ) (r : Reading) → Dec (Returned agree N T role r)
+  unfolding returnedTest
+  returned? N T role r =
+      decided (returnedTest test N T role r) (returnedTest-sound N T role r) (returnedTest-complete N T role r)

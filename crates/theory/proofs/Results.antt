@@ -3,109 +3,75 @@
 use Prim.Native.Nat.{ℕ, suc, _+_, _*_, _^_, _≤_, _<_}
 use native.Mathlib.Nat.{one-mul, mul-assoc, pow-zero, pow-succ'}
 use native.Mathlib.Omega.{arith}
-use mathlib.Core.Bool.{Bool}
+use native.Mathlib.Decide.{ℕ-discrete}
 use mathlib.Core.Path.{_≡_, refl, sym, ap, ap₂, _∙_, subst, subst₂}
 use mathlib.Core.Logic.{inl, inr}
 use mathlib.Core.List.{List, [], _∷_, _++_, map}
-use lib.Dec.{T as So, ltb, ltb→lt}
 use lib.ListN.{length, take, drop, replicate}
 use lib.Seq.{take-at, take-take}
-use Rattle.theory.specs.Limits.{mostTriangles, mostSplitTriangles, mostVertices, mostLevels}
-use Rattle.theory.specs.Mesh.{triangles, Same, Proper}
+use Rattle.theory.specs.Limits.{mostTriangles, mostSplitTriangles, anyRole, mostLevels}
+use Rattle.theory.specs.Mesh.{triangles, Same}
 use Rattle.theory.specs.Splitting.{edges, split}
-use Rattle.theory.specs.Reading.{Matched, Reading, IsReading, ReadingIn, Returned}
+use Rattle.theory.specs.Reading.{Agreement, Matched, Reading, IsReading, ReadingIn, Returned}
 use Rattle.theory.specs.Choice.{LeastRole, NoRole, Chosen, NoneChosen}
 use Rattle.theory.specs.Choice.{Several, reached, stopped, undone, sevenPlaces}
-use Rattle.theory.specs.Refusals.{Rule, Room, notThrees, noTriangle, tooLarge, tooShort, askedTooMuch}
-use Rattle.theory.specs.Refusals.{meshRules, noReading, LeastPlace, Passed, Refused}
-use Rattle.theory.specs.Calls.{Answer, OneAnswer, SeveralAnswer, Outputs, refusal, accepted, written, zeros}
-use Rattle.theory.specs.Calls.{splitRooms, Splits, undoOneRules, undoOneRooms, writtenReading, UndoesOne}
-use Rattle.theory.specs.Calls.{undoSeveralRules, undoSeveralRooms, UndoesSeveral}
+use Rattle.theory.specs.Refusals.{Rule, Room, Short, askedTooMuch, tooShort, sizeRules, meshRules, noReading}
+use Rattle.theory.specs.Refusals.{Passed, Refused}
+use Rattle.theory.specs.Calls.{Answer, OneAnswer, SeveralAnswer, Outputs, accepted, oneRefusal, severalAccepted}
+use Rattle.theory.specs.Calls.{written, zeros, lentToSplit, Splits}
+use Rattle.theory.specs.Calls.{undoOneRules, lentToUndoOne, writtenReading, acceptedReading, UndoesOne}
+use Rattle.theory.specs.Calls.{undoSeveralRules, lentToUndoSeveral, UndoesSeveral}
 use Rattle.theory.specs.Demands.{Enough, Within, foundMesh, foundReading, foundRoles, SplitsBack, Exactly}
-use Rattle.theory.proofs.Tests.{and-sound, allOf}
 use Rattle.theory.proofs.Finite.{match-size}
-use Rattle.theory.proofs.Refusals.{proper-passed}
+use Rattle.theory.proofs.Refusals.{at-place-0, refused-above, passed-front, passed-back, passed-both}
+use Rattle.theory.proofs.Refusals.{refused-by-back, back-refuses, not-given, asked-known, sized, sized-passed}
+use Rattle.theory.proofs.Refusals.{passed-proper, proper-passed}
 use Rattle.theory.proofs.Splitting.{split-length}
+use Rattle.theory.proofs.Lawful.{same-lawful}
 use Rattle.theory.proofs.Canonical.{returned-exists}
-use Rattle.theory.proofs.Determined.{chosen-not-refused, passed-front, judged, quarter}
-
--- ---- lists of rules in two parts
-
--- two parts that are passed make a list that is passed
-passed-both : (front back : List Rule) → Passed front → Passed back → Passed (front ++ back)
-unfolding Passed
-passed-both [] back p q = q
-passed-both (rule ∷ front) back p q = (p .0, passed-both front back (p .1) q)
-
--- where the front is passed, the refusal is by the back
-refused-back : (front back : List Rule) (n p : ℕ) → Passed front → Refused (front ++ back) n p → Refused back n p
-unfolding Passed Refused
-refused-back [] back n p passed r = r
-refused-back (rule ∷ front) back n p passed (inl r) = absurd (passed .0 p (r .1 .here))
-refused-back (rule ∷ front) back n p passed (inr r) = refused-back front back n p (passed .1) (r .1)
-
--- and a refusal by the back is one by the whole list
-back-refused : (front back : List Rule) (n p : ℕ) → Passed front → Refused back n p → Refused (front ++ back) n p
-unfolding Passed Refused
-back-refused [] back n p passed r = r
-back-refused (rule ∷ front) back n p passed r = inr (passed .0, back-refused front back n p (passed .1) r)
-
--- what is true of every row's number is true of the number of a refusal
-refused-number : (test : ℕ → Bool) (rules : List Rule) (n p : ℕ) → So (allOf test (map (λ rule. rule .number) rules))
-    → Refused rules n p → So (test n)
-unfolding Refused allOf
-refused-number test [] n p t r = absurd r
-refused-number test (rule ∷ rules) n p t (inl r) = rw (r .0) (and-sound (test (rule .number)) _ t .0)
-refused-number test (rule ∷ rules) n p t (inr r) =
-    refused-number test rules n p (and-sound (test (rule .number)) _ t .1) (r .1)
+use Rattle.theory.proofs.Determined.{chosen-not-refused, quarter}
 
 -- ---- proper within the limits, with room enough: 2 to 10 are not given
 
 -- the rows 2 to 10, which split and the two undos have in common
 abbrev common : ℕ → ℕ → List ℕ → List Room → List Rule
-common most N T rooms =
-    notThrees T ∷ noTriangle T ∷ tooLarge most N (triangles T) ∷ tooShort rooms ∷ meshRules N T
+common most N T rooms = sizeRules most N (length T) ++ (tooShort rooms ∷ meshRules N T)
 
 -- a proper mesh within the limits is refused by none of them
 pub within-passed : (most N : ℕ) (T : List ℕ) (rooms : List Room) → Within most N T → Enough rooms
     → Passed (common most N T rooms)
 unfolding Passed
 within-passed most N T rooms W enough =
-    (threes, (some, (few, (λ place g. enough (g .0), proper-passed N T (W .proper)))))
-  where
-    threes : (place : ℕ) → notThrees T .given place → ⊥
-    threes place g = g .0 (omega (arith, W .proper .otherwise .whole))
-
-    some : (place : ℕ) → noTriangle T .given place → ⊥
-    some place g = omega (arith, W .some, g .0)
-
-    few : (place : ℕ) → tooLarge most N (triangles T) .given place → ⊥
-    few place (inl l, _) = omega (arith, W .fewTriangles)
-    few place (inr l, _) = omega (arith, W .fewVertices)
+    passed-both (sizeRules most N (length T)) (tooShort rooms ∷ meshRules N T)
+    (sized-passed most N (length T) (record {
+      threes = omega (arith, W .proper .otherwise .whole);
+      some = W .some;
+      few = W .fewTriangles;
+      low = W .fewVertices;
+    }))
+    ((λ place g. enough (g .0)), proper-passed N T (W .proper))
 
 -- and where none of them is given, the mesh is proper and within the limits, and the room is enough
 pub passed-within : (most N : ℕ) (T : List ℕ) (rooms : List Room) → Passed (common most N T rooms)
     → Within most N T × Enough rooms
 unfolding Passed
-passed-within most N T rooms passed = (
-  record {
-    proper = judgement .0;
-    some = judgement .1;
-    fewTriangles = not-above (triangles T) most (λ l. passed .1 .1 .0 0 (inl l, refl));
-    fewVertices = not-above N mostVertices (λ l. passed .1 .1 .0 0 (inr l, refl));
-  },
-  λ short. passed .1 .1 .1 .0 0 (short, refl),
-)
-  where
-    judgement : Proper N T × (0 < triangles T)
-    judgement = judged N T (passed .0) (passed .1 .0) (passed .1 .1 .1 .1)
-
-    not-above : (m n : ℕ) → (n < m → ⊥) → m ≤ n
-    not-above m n h = omega (arith, h)
+passed-within most N T rooms passed =
+    let front : List Rule = sizeRules most N (length T) in
+    let back : List Rule = tooShort rooms ∷ meshRules N T in
+    let sizes = sized most N (length T) (passed-front front back passed) in
+    let others = passed-back front back passed in (
+      record {
+        proper = passed-proper N T (omega (arith, sizes .threes)) (others .1);
+        some = sizes .some;
+        fewTriangles = sizes .few;
+        fewVertices = sizes .low;
+      },
+      not-given (Short rooms) (others .0),
+    )
 
 -- the mesh of a reading is within split's limits, being a quarter of one within undo's
-pub reading-within : {N : ℕ} {T : List ℕ} {r : Reading} → Within mostTriangles N T → IsReading Same N T r
-    → Within mostSplitTriangles (r .vertices) (r .mesh)
+pub reading-within : {agree : Agreement} {N : ℕ} {T : List ℕ} {r : Reading} → Within mostTriangles N T
+    → IsReading agree N T r → Within mostSplitTriangles (r .vertices) (r .mesh)
 reading-within W R = record {
   proper = R .proper;
   some = omega (arith, quarter R, W .some);
@@ -132,7 +98,7 @@ take-written new old {n} e = take-at new (drop (length new) old) n e
 
 -- a proper mesh within split's limits is accepted, with room enough
 pub split-accepts : {N : ℕ} {T out : List ℕ} {works : List (List ℕ)} → Within mostSplitTriangles N T
-    → Enough (splitRooms N T out works)
+    → Enough (lentToSplit N T out works)
     → Splits N T out works (accepted (N + edges T) (4 * triangles T)) (written (split N T) out) (map zeros works)
 split-accepts {N} {T} W enough = Splits.accepts (within-passed mostSplitTriangles N T _ W enough) refl refl refl
 
@@ -164,9 +130,8 @@ reading-splits {N} {T} {r} {out} R (e, f, g) = record {
 pub split-accepted : {N : ℕ} {T out out′ : List ℕ} {works works′ : List (List ℕ)} {answer : Answer}
     → Splits N T out works answer out′ works′ → answer .refusal ≡ 0
     → Within mostSplitTriangles N T × (answer .vertices ≡ N + edges T) × (foundMesh answer out′ ≡ split N T)
-unfolding allOf
 split-accepted (Splits.refuses n p R e _ _) none =
-    absurd (omega (arith, ltb→lt 0 n (refused-number (ltb 0) _ n p tt R), ap (λ (a : Answer). a .refusal) e, none))
+    absurd (omega (arith, refused-above _ n p R (omega arith), ap (λ (a : Answer). a .refusal) e, none))
 split-accepted {N} {T} {out} (Splits.accepts passed e f _) none = (
   passed-within mostSplitTriangles N T _ passed .0,
   ap (λ (a : Answer). a .vertices) e,
@@ -176,12 +141,12 @@ split-accepted {N} {T} {out} (Splits.accepts passed e f _) none = (
 -- ---- which role is chosen
 
 -- a role is chosen for the numbers 0 to 4
-chosen-asked : {N : ℕ} {T : List ℕ} {asked role : ℕ} → Chosen N T asked role → asked ≤ 4
+chosen-asked : {N : ℕ} {T : List ℕ} {asked role : ℕ} → Chosen N T asked role → asked ≤ anyRole
 chosen-asked (Chosen.named l _) = omega arith
 chosen-asked (Chosen.least _) = omega arith
 
 -- and so is none
-none-asked : {N : ℕ} {T : List ℕ} {asked : ℕ} → NoneChosen N T asked → asked ≤ 4
+none-asked : {N : ℕ} {T : List ℕ} {asked : ℕ} → NoneChosen N T asked → asked ≤ anyRole
 none-asked (NoneChosen.named l _) = omega arith
 none-asked (NoneChosen.least _) = omega arith
 
@@ -202,34 +167,41 @@ none-named l (NoneChosen.named _ none) = none
 none-named l (NoneChosen.least _) = absurd (omega arith)
 
 -- asked 4, the role chosen is the least one
-pub chosen-least : {N : ℕ} {T : List ℕ} {role : ℕ} → Chosen N T 4 role → LeastRole Same N T role
+pub chosen-least : {N : ℕ} {T : List ℕ} {role : ℕ} → Chosen N T anyRole role → LeastRole Same N T role
 chosen-least (Chosen.named l _) = absurd (omega arith)
 chosen-least (Chosen.least L) = L
 
 -- and none is chosen where no role has a reading
-pub none-least : {N : ℕ} {T : List ℕ} → NoneChosen N T 4 → NoRole Same N T
+pub none-least : {N : ℕ} {T : List ℕ} → NoneChosen N T anyRole → NoRole Same N T
 none-least (NoneChosen.named l _) = absurd (omega arith)
 none-least (NoneChosen.least none) = none
+
+-- where no role has a reading, none is chosen, whatever may be asked
+pub none-chosen : {N : ℕ} {T : List ℕ} {asked : ℕ} → asked ≤ anyRole → NoRole Same N T → NoneChosen N T asked
+none-chosen {asked = asked} known none = elim (ℕ-discrete asked anyRole) [
+  | yes e ↦ rw e (NoneChosen.least none)
+  | no other ↦ NoneChosen.named {role = asked} (omega (arith, other)) (none .none asked)
+]
 
 -- ---- what undo one answers
 
 -- the rows of undo one but the last, 11
 abbrev but-eleven : ℕ → List ℕ → ℕ → List Room → List Rule
-but-eleven N T asked rooms = askedTooMuch 4 asked ∷ common mostTriangles N T rooms
+but-eleven N T asked rooms = askedTooMuch anyRole asked ∷ common mostTriangles N T rooms
 
 -- a proper mesh within its limits passes them
 but-eleven-passed : (N : ℕ) (T : List ℕ) (asked : ℕ) (rooms : List Room) → Within mostTriangles N T → Enough rooms
-    → asked ≤ 4 → Passed (but-eleven N T asked rooms)
+    → asked ≤ anyRole → Passed (but-eleven N T asked rooms)
 unfolding Passed
 but-eleven-passed N T asked rooms W enough l =
     (λ place g. omega (arith, g .0), within-passed mostTriangles N T rooms W enough)
 
 -- so it is refused with 11 or not at all
 one-refused : (N : ℕ) (T : List ℕ) (asked : ℕ) (rooms : List Room) (n p : ℕ) → Within mostTriangles N T → Enough rooms
-    → asked ≤ 4 → Refused (undoOneRules N T asked rooms) n p → (n ≡ 11) × NoneChosen N T asked
+    → asked ≤ anyRole → Refused (undoOneRules N T asked rooms) n p → (n ≡ 11) × NoneChosen N T asked
 unfolding Refused
 one-refused N T asked rooms n p W enough l refused =
-    go (refused-back (but-eleven N T asked rooms) (noReading N T asked ∷ []) n p
+    go (back-refuses (but-eleven N T asked rooms) (noReading N T asked ∷ []) n p
     (but-eleven-passed N T asked rooms W enough l) refused)
   where
     go : Refused (noReading N T asked ∷ []) n p → (n ≡ 11) × NoneChosen N T asked
@@ -244,14 +216,10 @@ one-within N T asked rooms passed =
     passed-within mostTriangles N T rooms
     (passed-front (common mostTriangles N T rooms) (noReading N T asked ∷ []) (passed .1)) .0
 
--- what undo one answers where it accepts a reading in a role
-abbrev pub one-accepted : ℕ → Reading → OneAnswer
-one-accepted role r = record { common = accepted (r .vertices) (triangles (r .mesh)); role = role }
-
 -- a proper mesh within its limits is accepted with the chosen role and the returned reading, with room enough
 pub one-accepts : {N : ℕ} {T : List ℕ} {asked role : ℕ} {r : Reading} {out : Outputs} {works : List (List ℕ)}
-    → Within mostTriangles N T → Enough (undoOneRooms N T out works) → Chosen N T asked role → Returned Same N T role r
-    → UndoesOne N T asked out works (one-accepted role r) (writtenReading r out) (map zeros works)
+    → Within mostTriangles N T → Enough (lentToUndoOne N T out works) → Chosen N T asked role → Returned Same N T role r
+    → UndoesOne N T asked out works (acceptedReading role r) (writtenReading r out) (map zeros works)
 unfolding Passed
 one-accepts {N} {T} {asked} {role} {r} {out} {works} W enough c R =
     UndoesOne.accepts role r (passed-both (but-eleven N T asked rooms) (noReading N T asked ∷ [])
@@ -259,33 +227,30 @@ one-accepts {N} {T} {asked} {role} {r} {out} {works} W enough c R =
     c R refl refl refl
   where
     rooms : List Room
-    rooms = undoOneRooms N T out works
+    rooms = lentToUndoOne N T out works
 
 -- so where a role is chosen, there is an acceptance
 pub chosen-accepted : {N : ℕ} {T : List ℕ} {asked role : ℕ} {out : Outputs} {works : List (List ℕ)}
-    → Within mostTriangles N T → Enough (undoOneRooms N T out works) → Chosen N T asked role
-    → (r : Reading) × UndoesOne N T asked out works (one-accepted role r) (writtenReading r out) (map zeros works)
+    → Within mostTriangles N T → Enough (lentToUndoOne N T out works) → Chosen N T asked role
+    → (r : Reading) × UndoesOne N T asked out works (acceptedReading role r) (writtenReading r out) (map zeros works)
 chosen-accepted {N} {T} {asked} {role} {out} {works} W enough c =
-    go (returned-exists N T (W .proper) role (W .some) (chosen-reading c))
+    go (returned-exists N T (W .proper) same-lawful role (chosen-reading c))
   where
     go : (r : Reading) × Returned Same N T role r
-        → (r : Reading) × UndoesOne N T asked out works (one-accepted role r) (writtenReading r out) (map zeros works)
+        → (r : Reading) × UndoesOne N T asked out works (acceptedReading role r) (writtenReading r out) (map zeros works)
     go (r, R) = (r, one-accepts W enough c R)
 
 -- where none is chosen, it is refused with 11
 pub none-refused : {N : ℕ} {T : List ℕ} {asked : ℕ} {out : Outputs} {works : List (List ℕ)} → Within mostTriangles N T
-    → Enough (undoOneRooms N T out works) → NoneChosen N T asked
-    → UndoesOne N T asked out works (record { common = refusal 11 0; role = 0 }) out (map zeros works)
+    → Enough (lentToUndoOne N T out works) → NoneChosen N T asked
+    → UndoesOne N T asked out works (oneRefusal 11 0) out (map zeros works)
 unfolding Refused
 none-refused {N} {T} {asked} {out} {works} W enough none =
-    UndoesOne.refuses 11 0 (back-refused (but-eleven N T asked rooms) (noReading N T asked ∷ []) 11 0
-    (but-eleven-passed N T asked rooms W enough (none-asked none)) (inl (refl, first))) refl refl refl
+    UndoesOne.refuses 11 0 (refused-by-back (but-eleven N T asked rooms) (noReading N T asked ∷ []) 11 0
+    (but-eleven-passed N T asked rooms W enough (none-asked none)) (inl (refl, at-place-0 none))) refl refl refl
   where
     rooms : List Room
-    rooms = undoOneRooms N T out works
-
-    first : LeastPlace (noReading N T asked .given) 0
-    first = record { here = (none, refl); before = λ earlier l. absurd (omega arith) }
+    rooms = lentToUndoOne N T out works
 
 -- What an acceptance by undo one says, of the reading as a caller finds it.
 pub record Accepted (N : ℕ) (T : List ℕ) (asked : ℕ) (out : Outputs) (answer : OneAnswer) (out′ : Outputs)
@@ -297,8 +262,8 @@ pub record Accepted (N : ℕ) (T : List ℕ) (asked : ℕ) (out : Outputs) (answ
   pub wrote : out′ ≡ writtenReading (foundReading N T answer out′) out
 
 -- the written reading is found
-found-written : (N : ℕ) (T : List ℕ) (role : ℕ) (r : Reading) (out : Outputs) → Returned Same N T role r
-    → foundReading N T (one-accepted role r) (writtenReading r out) ≡ r
+found-written : {agree : Agreement} (N : ℕ) (T : List ℕ) (role : ℕ) (r : Reading) (out : Outputs)
+    → Returned agree N T role r → foundReading N T (acceptedReading role r) (writtenReading r out) ≡ r
 found-written N T role r out R = λ i. record {
   vertices = r .vertices;
   mesh = take-written (r .mesh) (out .mesh) (R .is .proper .otherwise .whole) i;
@@ -310,22 +275,21 @@ found-written N T role r out R = λ i. record {
 pub one-accepted-found : {N : ℕ} {T : List ℕ} {asked : ℕ} {out out′ : Outputs} {works works′ : List (List ℕ)}
     {answer : OneAnswer} → UndoesOne N T asked out works answer out′ works′ → answer .common .refusal ≡ 0
     → Accepted N T asked out answer out′
-unfolding allOf
 one-accepted-found (UndoesOne.refuses n p R e _ _) none = absurd (omega (
   arith,
-  ltb→lt 0 n (refused-number (ltb 0) _ n p tt R),
+  refused-above _ n p R (omega arith),
   ap (λ (a : OneAnswer). a .common .refusal) e,
   none,
 ))
 one-accepted-found {N} {T} {asked} {out} {works = works} (UndoesOne.accepts role r passed c R e f _) none =
     subst₂ (λ (a : OneAnswer) (o : Outputs). Accepted N T asked out a o) (sym e) (sym f) here
   where
-    found : foundReading N T (one-accepted role r) (writtenReading r out) ≡ r
+    found : foundReading N T (acceptedReading role r) (writtenReading r out) ≡ r
     found = found-written N T role r out R
 
-    here : Accepted N T asked out (one-accepted role r) (writtenReading r out)
+    here : Accepted N T asked out (acceptedReading role r) (writtenReading r out)
     here = record {
-      within = one-within N T asked (undoOneRooms N T out works) passed;
+      within = one-within N T asked (lentToUndoOne N T out works) passed;
       chosen = c;
       returned = subst (λ (s : Reading). Returned Same N T role s) (sym found) R;
       counted = ap (λ (s : Reading). triangles (s .mesh)) (sym found);
@@ -339,7 +303,7 @@ pub data Outcome (N : ℕ) (T : List ℕ) (asked : ℕ) (answer : OneAnswer) : T
 
 -- nothing else happens to a proper mesh within the limits, with room enough
 pub outcome : {N : ℕ} {T : List ℕ} {asked : ℕ} {out out′ : Outputs} {works works′ : List (List ℕ)} {answer : OneAnswer}
-    → Within mostTriangles N T → Enough (undoOneRooms N T out works) → asked ≤ 4
+    → Within mostTriangles N T → Enough (lentToUndoOne N T out works) → asked ≤ anyRole
     → UndoesOne N T asked out works answer out′ works′ → Outcome N T asked answer
 outcome {N} {T} {asked} W enough l (UndoesOne.refuses n p R e _ _) =
     let eleven : (n ≡ 11) × NoneChosen N T asked = one-refused N T asked _ n p W enough l R in
@@ -414,21 +378,13 @@ several-asked : (N : ℕ) (T : List ℕ) (asked : ℕ) (rooms : List Room) → P
     → (asked ≤ mostLevels) × Within mostTriangles N T
 unfolding Passed
 several-asked N T asked rooms passed =
-    (not-above (λ l. passed .0 0 (l, refl)), passed-within mostTriangles N T rooms (passed .1) .0)
-  where
-    not-above : (mostLevels < asked → ⊥) → asked ≤ mostLevels
-    not-above h = omega (arith, h)
-
--- what undo several answers where it accepts
-abbrev pub several-accepted : ℕ → List ℕ → ℕ → List ℕ → SeveralAnswer
-several-accepted levels roles M C =
-    record { common = accepted M (triangles C); levels = levels; roles = sevenPlaces roles }
+    (asked-known mostLevels asked (passed .0), passed-within mostTriangles N T rooms (passed .1) .0)
 
 -- a proper mesh within its limits is accepted with the levels undone, with room enough
 pub several-accepts : {N : ℕ} {T : List ℕ} {asked levels M : ℕ} {roles C out : List ℕ} {works : List (List ℕ)}
-    → Within mostTriangles N T → Enough (undoSeveralRooms N T out works) → asked ≤ mostLevels
+    → Within mostTriangles N T → Enough (lentToUndoSeveral N T out works) → asked ≤ mostLevels
     → Several asked N T levels roles M C
-    → UndoesSeveral N T asked out works (several-accepted levels roles M C) (written C out) (map zeros works)
+    → UndoesSeveral N T asked out works (severalAccepted levels roles M (triangles C)) (written C out) (map zeros works)
 several-accepts {N} {T} {asked} {levels} {M} {roles} {C} W enough l S =
     UndoesSeveral.accepts levels M roles C (several-passed N T asked _ W enough l) S refl refl refl
 
@@ -452,10 +408,9 @@ found-roles roles {levels} e l =
 pub several-accepted-found : {N : ℕ} {T : List ℕ} {asked : ℕ} {out out′ : List ℕ} {works works′ : List (List ℕ)}
     {answer : SeveralAnswer} → UndoesSeveral N T asked out works answer out′ works′ → answer .common .refusal ≡ 0
     → SeveralAccepted N T asked out answer out′
-unfolding allOf
 several-accepted-found (UndoesSeveral.refuses n p R e _ _) none = absurd (omega (
   arith,
-  ltb→lt 0 n (refused-number (ltb 0) _ n p tt R),
+  refused-above _ n p R (omega arith),
   ap (λ (a : SeveralAnswer). a .common .refusal) e,
   none,
 ))
@@ -463,7 +418,7 @@ several-accepted-found {N} {T} {asked} {out} {works = works} (UndoesSeveral.acce
     none = subst₂ (λ (a : SeveralAnswer) (o : List ℕ). SeveralAccepted N T asked out a o) (sym e) (sym f) here
   where
     limits : (asked ≤ mostLevels) × Within mostTriangles N T
-    limits = several-asked N T asked (undoSeveralRooms N T out works) passed
+    limits = several-asked N T asked (lentToUndoSeveral N T out works) passed
 
     few : levels ≤ mostLevels
     few = omega (arith, several-at-most S, limits .0)
@@ -474,7 +429,7 @@ several-accepted-found {N} {T} {asked} {out} {works = works} (UndoesSeveral.acce
     rolesFound : take levels (sevenPlaces roles) ≡ roles
     rolesFound = found-roles roles (several-roles S) few
 
-    here : SeveralAccepted N T asked out (several-accepted levels roles M C) (written C out)
+    here : SeveralAccepted N T asked out (severalAccepted levels roles M (triangles C)) (written C out)
     here = record {
       within = limits .1;
       undone =

@@ -6,10 +6,11 @@ use native.Mathlib.Omega.{arith}
 use mathlib.Core.Path.{_≡_, sym, ap, _∙_, subst}
 use mathlib.Core.Logic.{_≢_, inl, inr}
 use mathlib.Core.List.{List}
+use lib.ListN.{length}
 use Rattle.theory.specs.Mesh.{at, triangles, On, HasEdge, Same, OtherwiseProper}
 use Rattle.theory.specs.Reading.{renamed, Reading, IsReading, Kept, Centre, Across}
 use Rattle.theory.proofs.Mesh.{three-vertices, regular-other, regular-only, across-edge, edge-across}
-use Rattle.theory.proofs.Mesh.{on-vertex, side, side-to, third-vertex}
+use Rattle.theory.proofs.Mesh.{on-place, on-vertex, side, side-to, third-vertex}
 use Rattle.theory.proofs.Renaming.{on-renamed, renamed-on}
 use Rattle.theory.proofs.Heart.{CoarseOn, coarse-on}
 use Rattle.theory.proofs.Centres.{
@@ -155,25 +156,29 @@ module _ (N : ℕ) (T : List ℕ) (P : OtherwiseProper N T) (r : Reading) (R : I
             | inr (inr e) ↦ (2, l₂, w, k₂, o₂, sym e)
           ]
 
-  -- where f renumbers the coarse vertices, and triangle t of a mesh S has exactly the new numbers of the vertices
-  -- opposite a centre, the centre's coarse triangle is the same as t under f
-  pub opposite-same : (f S : List ℕ) (ψ : ℕ → ℕ) (k t : ℕ) → Centre r k
-      → ((w : ℕ) → Kept r w → at f (at (r .vertexMap) w) ≡ ψ w)
-      → ((i w : ℕ) → i < 3 → Kept r w → Opposite T k i w → On S t (ψ w))
-      → ((y : ℕ) → On S t y → (i : ℕ) × (i < 3) × (w : ℕ) × Kept r w × Opposite T k i w × (ψ w ≡ y))
+  -- where f renumbers the coarse vertices, and triangle t of a mesh S has at each corner the new number of the vertex
+  -- opposite that corner of a centre, the centre's coarse triangle is the same as t under f
+  pub opposite-same : (f S : List ℕ) (k t : ℕ) → Centre r k → 3 * t + 2 < length S
+      → ((i w : ℕ) → i < 3 → Kept r w → Opposite T k i w → at S (3 * t + i) ≡ at f (at (r .vertexMap) w))
       → Same (renamed f (r .mesh)) (coarseOf r k) S t
-  opposite-same f S ψ k t c sends to from = record {
+  opposite-same f S k t c inside row = record {
     there = λ v o. there v (renamed-on f o);
-    back = λ y o. back y (from y o);
+    back = λ y o. back y o (opposite-exists k (o .corner % 3) c (omega arith));
   }
     where
       there : (v : ℕ) → (y : ℕ) × On (r .mesh) (coarseOf r k) y × (at f y ≡ v) → On S t v
       there v (y, o, e) = hit (opposite-hit k y c o)
         where
           hit : (i : ℕ) × (i < 3) × (w : ℕ) × Kept r w × Opposite T k i w × (at (r .vertexMap) w ≡ y) → On S t v
-          hit (i, b, w, p, x, d) = subst (On S t) (sym (sends w p) ∙ ap (at f) d ∙ e) (to i w b p x)
+          hit (i, b, w, p, x, d) = record {
+            corner = 3 * t + i;
+            inside = omega arith;
+            triangle = omega arith;
+            holds = row i w b p x ∙ ap (at f) d ∙ e;
+          }
 
-      back : (y : ℕ) → (i : ℕ) × (i < 3) × (w : ℕ) × Kept r w × Opposite T k i w × (ψ w ≡ y)
+      back : (y : ℕ) (o : On S t y) → (w : ℕ) × Kept r w × Opposite T k (o .corner % 3) w
           → On (renamed f (r .mesh)) (coarseOf r k) y
-      back y (i, b, w, p, x, d) =
-          subst (On (renamed f (r .mesh)) (coarseOf r k)) (sends w p ∙ d) (on-renamed f (opposite-coarse k i w c b x))
+      back y o (w, p, x) = subst (On (renamed f (r .mesh)) (coarseOf r k))
+          (sym (row (o .corner % 3) w (omega arith) p x) ∙ on-place o)
+          (on-renamed f (opposite-coarse k (o .corner % 3) w c (omega arith) x))

@@ -6,27 +6,25 @@ use native.Mathlib.Nat.{add-comm, mul-le-mul, pow-le-pow-right}
 use native.Mathlib.Omega.{arith}
 use native.Mathlib.Decide.{decLt}
 use mathlib.Core.Path.{_≡_, refl, sym, ap, _∙_, subst, subst₂}
-use mathlib.Core.Logic.{inl, inr}
 use mathlib.Core.List.{List, [], map, _++_}
 use lib.ListN.{take, replicate, length-replicate, replicate-append-replicate}
 use lib.Seq.{take-at}
 use Rattle.theory.specs.Limits.{mostTriangles, mostSplitTriangles, mostLevels}
 use Rattle.theory.specs.Mesh.{triangles, Same, Proper}
 use Rattle.theory.specs.Splitting.{edges, split}
-use Rattle.theory.specs.Reading.{Reading, Returned}
+use Rattle.theory.specs.Reading.{Agreement, Reading, Returned}
 use Rattle.theory.specs.Choice.{LeastRole, NoRole, Several, reached, stopped, undone, sevenPlaces}
-use Rattle.theory.specs.Calls.{SeveralAnswer, accepted, written, zeros, splitRooms, Splits}
-use Rattle.theory.specs.Calls.{undoSeveralRooms, UndoesSeveral}
-use Rattle.theory.specs.Refusals.{Short}
+use Rattle.theory.specs.Calls.{SeveralAnswer, accepted, severalAccepted, written, zeros, lentToSplit, Splits}
+use Rattle.theory.specs.Calls.{lentToUndoSeveral, UndoesSeveral}
 use Rattle.theory.specs.Demands.{Enough, Within, SameApart, foundMesh, foundRoles, SplitTimes, never, onceMore}
 use Rattle.theory.proofs.Finite.{match-size}
-use Rattle.theory.proofs.Renaming.{matched-identity, matched-composed}
+use Rattle.theory.proofs.Refusals.{passed-not-refused, fits-none-short}
+use Rattle.theory.proofs.Lawful.{same-lawful, matched-identity, matched-composed, carried}
 use Rattle.theory.proofs.SplitProper.{itself, split-returned}
-use Rattle.theory.proofs.Carried.{carried}
-use Rattle.theory.proofs.Determined.{passed-not-refused, quarter, undoes-several-determined}
+use Rattle.theory.proofs.Determined.{returned-in, quarter, undoes-several-determined}
 use Rattle.theory.proofs.Results.{reading-within, smaller-within, split-accepts, split-accepted}
 use Rattle.theory.proofs.Results.{several-at-most, several-quarters, several-stops, several-within}
-use Rattle.theory.proofs.Results.{several-passed, several-accepted, several-accepts}
+use Rattle.theory.proofs.Results.{several-passed, several-accepts}
 use Rattle.theory.proofs.Results.{SeveralAccepted, several-accepted-found}
 use Rattle.theory.proofs.Demands.{split-within}
 
@@ -50,7 +48,6 @@ split-times-splittings {N} {T = T} (onceMore {times} {M} {S} {out′ = out′} {
 
 -- and for these splittings there are such calls
 splittings-split-times : {N times M : ℕ} {T S : List ℕ} → Splittings N T times M S → SplitTimes N T times M S
-unfolding Short
 splittings-split-times untouched = never
 splittings-split-times {N} {T = T} (another {times} {M} {S} before W) =
     subst (SplitTimes N T (suc times) (M + edges S)) (split-accepted splits refl .2)
@@ -59,9 +56,10 @@ splittings-split-times {N} {T = T} (another {times} {M} {S} before W) =
     room : List ℕ
     room = replicate (12 * triangles S) 0
 
-    enough : Enough (splitRooms M S room [])
-    enough (inl l) = omega (arith, length-replicate {A = ℕ} (12 * triangles S) 0)
-    enough (inr l) = l
+    enough : Enough (lentToSplit M S room [])
+    enough =
+        fits-none-short (lentToSplit M S room [])
+        (omega (arith, length-replicate {A = ℕ} (12 * triangles S) 0), tt)
 
     splits : Splits M S room [] (accepted (M + edges S) (4 * triangles S)) (written (split M S) room) []
     splits = split-accepts W enough
@@ -73,9 +71,9 @@ splittings-within W untouched = W
 splittings-within W (another _ W′) = split-within W′
 
 -- role 0 is the least where it has a reading, since no role is below it
-role-zero : {N : ℕ} {T : List ℕ} {r : Reading} → Returned Same N T 0 r → LeastRole Same N T 0
-role-zero {r = r} R = record {
-  has = record { reading = r; is = R .is; inRole = R .inRole };
+role-zero : {agree : Agreement} {N : ℕ} {T : List ℕ} {r : Reading} → Returned agree N T 0 r → LeastRole agree N T 0
+role-zero R = record {
+  has = returned-in R;
   before = λ earlier l. absurd (omega arith);
 }
 
@@ -86,7 +84,7 @@ splittings-undone untouched = reached
 splittings-undone (another {times} {M} {S} before W) = undone (itself M S) (role-zero R) R (splittings-undone before)
   where
     R : Returned Same (M + edges S) (split M S) 0 (itself M S)
-    R = split-returned M S (W .proper) (W .some)
+    R = split-returned M S (W .proper) same-lawful (W .some)
 
 -- ---- seven levels are all
 
@@ -163,16 +161,15 @@ zeros-placed n = ap (take mostLevels) swapped
 -- role 0 for each of them, and writes the mesh; the rest stays.
 pub record ComesBackFrom (levels N : ℕ) (T out : List ℕ) (works : List (List ℕ)) (answer : SeveralAnswer)
     (out′ : List ℕ) (works′ : List (List ℕ)) : Type 0 where
-  pub answers : answer
-      ≡ record { common = accepted N (triangles T); levels = levels; roles = sevenPlaces (replicate levels 0) }
+  pub answers : answer ≡ severalAccepted levels (replicate levels 0) N (triangles T)
   pub allZero : answer .roles ≡ replicate mostLevels 0
   pub writes : out′ ≡ written T out
   pub clears : works′ ≡ map zeros works
 
 -- a proper mesh within undo's limits, split so many times, and undone as many levels with room enough, is accepted ..
 pub split-times-undone : {N times M : ℕ} {T S out : List ℕ} {works : List (List ℕ)} → Within mostTriangles N T
-    → SplitTimes N T times M S → Enough (undoSeveralRooms M S out works)
-    → UndoesSeveral M S times out works (several-accepted times (replicate times 0) N T) (written T out)
+    → SplitTimes N T times M S → Enough (lentToUndoSeveral M S out works)
+    → UndoesSeveral M S times out works (severalAccepted times (replicate times 0) N (triangles T)) (written T out)
     (map zeros works)
 split-times-undone W C enough =
     let D : Splittings _ _ _ _ _ = split-times-splittings C in
@@ -181,12 +178,12 @@ split-times-undone W C enough =
 -- .. and comes back
 pub split-times-comes-back : {N times M : ℕ} {T S out out′ : List ℕ} {works works′ : List (List ℕ)}
     {answer : SeveralAnswer} → Within mostTriangles N T → SplitTimes N T times M S
-    → Enough (undoSeveralRooms M S out works) → UndoesSeveral M S times out works answer out′ works′
+    → Enough (lentToUndoSeveral M S out works) → UndoesSeveral M S times out works answer out′ works′
     → ComesBackFrom times N T out works answer out′ works′
 split-times-comes-back {N} {times} {T = T} {out = out} {out′} {works} {works′} {answer} W C enough U =
     go (undoes-several-determined U (split-times-undone W C enough))
   where
-    go : (answer ≡ several-accepted times (replicate times 0) N T) × (out′ ≡ written T out)
+    go : (answer ≡ severalAccepted times (replicate times 0) N (triangles T)) × (out′ ≡ written T out)
         × (works′ ≡ map zeros works) → ComesBackFrom times N T out works answer out′ works′
     go (e, f, g) = record {
       answers = e;
@@ -197,7 +194,7 @@ split-times-comes-back {N} {times} {T = T} {out = out} {out′} {works} {works�
 
 -- "Asked 0, a proper mesh comes back unchanged."
 pub asked-none-unchanged : {N : ℕ} {T out out′ : List ℕ} {works works′ : List (List ℕ)} {answer : SeveralAnswer}
-    → Within mostTriangles N T → Enough (undoSeveralRooms N T out works)
+    → Within mostTriangles N T → Enough (lentToUndoSeveral N T out works)
     → UndoesSeveral N T 0 out works answer out′ works′ → ComesBackFrom 0 N T out works answer out′ works′
 asked-none-unchanged W enough U = split-times-comes-back W never enough U
 
@@ -206,8 +203,8 @@ asked-none-unchanged W enough U = split-times-comes-back W never enough U
 -- the mesh that is left, split as many times, is the input apart from numbering and order
 several-splits : {asked N levels M M′ : ℕ} {T roles C S : List ℕ} → Proper N T → Several asked N T levels roles M C
     → Splittings M C levels M′ S → SameApart N T M′ S
-several-splits {N = N} {T = T} P reached untouched = (_, _, matched-identity N T (P .otherwise .below))
-several-splits {N = N} {T = T} P (stopped _) untouched = (_, _, matched-identity N T (P .otherwise .below))
+several-splits {N = N} {T = T} P reached untouched = (_, _, matched-identity same-lawful N T (P .otherwise .below))
+several-splits {N = N} {T = T} P (stopped _) untouched = (_, _, matched-identity same-lawful N T (P .otherwise .below))
 several-splits {N = N} {T = T} P (undone r _ R S) (another {M = L} {S = D} before W) =
     go (several-splits (R .is .proper) S before)
   where
@@ -215,8 +212,8 @@ several-splits {N = N} {T = T} P (undone r _ R S) (another {M = L} {S = D} befor
     go (f, g, G) = (
       _,
       _,
-      matched-composed (P .otherwise .below) (R .is .matched)
-          (carried f g (r .vertices) (r .mesh) L D (R .is .proper .otherwise) (W .proper .otherwise) G .matched),
+      matched-composed same-lawful (P .otherwise .below) (R .is .matched)
+          (carried same-lawful (R .is .proper .otherwise) (W .proper .otherwise) G .matched),
     )
 
 -- what is the same as a mesh within the limits, apart from numbering and order, is within them, if proper
@@ -278,7 +275,7 @@ module _ {N : ℕ} {T : List ℕ} {asked : ℕ} {out out′ : List ℕ} {works w
 
   -- ---- demand 3, level by level: undo several undoes what it answers, and stops only where it must
 
-  -- what is left is what the levels answered leave, each undone in its least role as answered; the places behind the
+  -- what is left is what the levels answered leave, each undone in its least role as answered; the places after the
   -- roles are 0, and nothing but the mesh is written
   pub levels-are-undone : Several asked N T (answer .levels) (foundRoles answer) (answer .common .vertices) left
       × (answer .roles ≡ sevenPlaces (foundRoles answer)) × (out′ ≡ written left out)
@@ -300,7 +297,7 @@ seven-undo-all U none = several-seven (several-accepted-found U none .within) (s
 
 -- a proper mesh within the limits is never refused, with room enough and at most seven levels asked
 pub several-never-refuses : {N : ℕ} {T : List ℕ} {asked : ℕ} {out out′ : List ℕ} {works works′ : List (List ℕ)}
-    {answer : SeveralAnswer} → Within mostTriangles N T → Enough (undoSeveralRooms N T out works) → asked ≤ mostLevels
+    {answer : SeveralAnswer} → Within mostTriangles N T → Enough (lentToUndoSeveral N T out works) → asked ≤ mostLevels
     → UndoesSeveral N T asked out works answer out′ works′ → answer .common .refusal ≡ 0
 several-never-refuses {N} {T} {asked} W enough l (UndoesSeveral.refuses n p R _ _ _) =
     absurd (passed-not-refused _ n p (several-passed N T asked _ W enough l) R)

@@ -1,25 +1,25 @@
 -- The splitting of a proper mesh is proper, with V + E vertices and 4F triangles, and the mesh is its returned reading
 -- in role 0, with identity maps. And V ≤ 3F in a proper mesh.
 use Prim.Native.Nat.{ℕ, suc, _+_, _*_, _-_, _/_, _%_, _≤_, _<_}
-use mathlib.Core.Path.{_≡_, refl, sym, ap, _∙_, subst}
-use mathlib.Core.Logic.{_≢_, inl, inr}
+use mathlib.Core.Path.{_≡_, refl, ap, _∙_, subst}
+use mathlib.Core.Logic.{_≢_}
 use mathlib.Core.List.{List}
 use native.Mathlib.Decide.{ℕ-discrete, decLt}
 use native.Mathlib.Omega.{arith}
 use lib.ListN.{length}
-use Rattle.theory.specs.Mesh.{at, triangles, On, HasEdge, Same, Share, OtherwiseProper, Proper}
+use Rattle.theory.specs.Mesh.{at, triangles, On, HasEdge, Share, OtherwiseProper, Proper}
 use Rattle.theory.specs.Mesh.{Reach, here, step}
 use Rattle.theory.specs.Splitting.{next, edges, edgeNo, split}
-use Rattle.theory.specs.Reading.{Matched, Reading, IsReading, Kept, Centre, centre, Across, Returned}
+use Rattle.theory.specs.Reading.{Agreement, Matched, Reading, IsReading, Kept, Centre, centre, Across, Returned}
 use Rattle.theory.proofs.Finite.{onto-le, identity, identity-at, identity-length}
-use Rattle.theory.proofs.Corners.{triangle-place, before, before-place, next-before, next-or-before}
-use Rattle.theory.proofs.Mesh.{on-place, corners-apart, share-sym, on-triangle, on-vertex}
-use Rattle.theory.proofs.Renaming.{matched-identity}
-use Rattle.theory.proofs.Splitting.{Joins, along, against, joins-sameEdge}
+use Rattle.theory.proofs.Corners.{triangle-place, triangle-inside, next-triangle, before-place, before-next}
+use Rattle.theory.proofs.Mesh.{on-place, share-sym, on-triangle, on-vertex}
+use Rattle.theory.proofs.Splitting.{Joins, along, against, joins-sameEdge, Side, edge-side}
 use Rattle.theory.proofs.Splitting.{edgeNo-same, edgeNo-above, edgeNo-hit}
 use Rattle.theory.proofs.Splitting.{split-length, split-triangles, split-centre}
 use Rattle.theory.proofs.Splitting.{on-centre, on-tip, on-leaving, on-entering}
 use Rattle.theory.proofs.Heart.{split-below, split-different, split-unlike, centre-shares}
+use Rattle.theory.proofs.Lawful.{Lawful, matched-identity}
 
 -- ---- the splitting is proper
 
@@ -55,51 +55,51 @@ module _ (N : ℕ) (T : List ℕ) (P : OtherwiseProper N T) where
     used = split-used;
   }
 
-  -- an edge u-v of triangle k: where u stands, a half-edge on it, and the edge's vertex on the triangle at u's corner
-  record Side (k u v : ℕ) : Type 0 where
+  -- an edge u-v of triangle k in the splitting: where u stands, a half-edge on the edge, and its vertex on the triangle
+  -- at u's corner
+  record Halved (k u v : ℕ) : Type 0 where
     start : On T k u
     half : ℕ
     joins : Joins T half u v
     on : On (split N T) (4 * k + suc (start .corner % 3)) (edgeNo N T half)
 
-  -- every edge of a triangle is such a side: the half-edge leaves u's corner, or enters it
-  edge-side : {k u v : ℕ} → HasEdge T k u v → Side k u v
-  edge-side {k} {u} {v} h =
-      elim (next-or-before d c (t .triangle ∙ sym (s .triangle)) (corners-apart t s (λ e. h .differ (sym e)))) [
-        | inl e ↦ leaving e
-        | inr e ↦ entering e
-      ]
+  -- every edge of a triangle is halved: its half-edge leaves u's corner, or enters it
+  edge-halved : {k u v : ℕ} → HasEdge T k u v → Halved k u v
+  edge-halved {k} {u} {v} e = go (s .joins)
     where
-      s : On T k u
-      s = h .oneEnd
-
-      t : On T k v
-      t = h .otherEnd
+      s : Side T k u v
+      s = edge-side e
 
       c : ℕ
-      c = s .corner
+      c = s .half
 
-      d : ℕ
-      d = t .corner
+      l : k < triangles T
+      l = on-triangle P (e .oneEnd)
 
-      leaving : d ≡ next c → Side k u v
-      leaving e = record {
-        start = s;
+      beyond : next c / 3 ≡ k
+      beyond = next-triangle c ∙ s .triangle
+
+      go : Joins T c u v → Halved k u v
+      go (along p q) = record {
+        start = record { corner = c; inside = s .inside; triangle = s .triangle; holds = p };
         half = c;
-        joins = along (s .holds) (ap (at T) (sym e) ∙ t .holds);
-        on = rw (triangle-place c k (s .triangle)) at (on-leaving N T k (c % 3) (on-triangle P s) (omega arith));
+        joins = along p q;
+        on = rw (triangle-place c k (s .triangle)) at (on-leaving N T k (c % 3) l (omega arith));
       }
-
-      entering : d ≡ before c → Side k u v
-      entering e = record {
-        start = s;
-        half = before c;
-        joins = against (ap (at T) (sym e) ∙ t .holds) (ap (at T) (next-before c) ∙ s .holds);
-        on = rw (before-place c k (s .triangle)) at (on-entering N T k (c % 3) (on-triangle P s) (omega arith));
+      go (against p q) = record {
+        start = record {
+          corner = next c;
+          inside = triangle-inside (length T) (next c) c (P .whole) (s .inside) (next-triangle c);
+          triangle = beyond;
+          holds = q;
+        };
+        half = c;
+        joins = against p q;
+        on = rw (before-place (next c) k beyond, before-next c) at (on-entering N T k (next c % 3) l (omega arith));
       }
 
   -- where two triangles share an edge u-v, the triangles at u's corners share the edge from u to the vertex on u-v
-  corners-beside : {k l u v : ℕ} (s : Side k u v) (t : Side l u v)
+  corners-beside : {k l u v : ℕ} (s : Halved k u v) (t : Halved l u v)
       → Share (split N T) (4 * k + suc (s .start .corner % 3)) (4 * l + suc (t .start .corner % 3))
   corners-beside {k} {l} {u} {v} s t = record {
     u = u;
@@ -117,12 +117,12 @@ module _ (N : ℕ) (T : List ℕ) (P : OtherwiseProper N T) where
   -- the centres of triangles that are connected are connected
   centres-reach : {j : ℕ} → Reach T 0 j → Reach (split N T) 0 (4 * j)
   centres-reach here = here
-  centres-reach (step r e) = over (centres-reach r) (edge-side (e .one)) (edge-side (e .other))
+  centres-reach (step r e) = over (centres-reach r) (edge-halved (e .one)) (edge-halved (e .other))
     where
-      out : {k u v : ℕ} (s : Side k u v) → Share (split N T) (4 * k) (4 * k + suc (s .start .corner % 3))
+      out : {k u v : ℕ} (s : Halved k u v) → Share (split N T) (4 * k) (4 * k + suc (s .start .corner % 3))
       out {k} s = centre-shares N T P k (s .start .corner % 3) (on-triangle P (s .start)) (omega arith)
 
-      over : {k l u v : ℕ} → Reach (split N T) 0 (4 * k) → Side k u v → Side l u v → Reach (split N T) 0 (4 * l)
+      over : {k l u v : ℕ} → Reach (split N T) 0 (4 * k) → Halved k u v → Halved l u v → Reach (split N T) 0 (4 * l)
       over r s t = step (step (step r (out s)) (corners-beside s t)) (share-sym (out t))
 
 module _ (N : ℕ) (T : List ℕ) (P : Proper N T) where
@@ -199,12 +199,12 @@ module _ (N : ℕ) (T : List ℕ) where
 
 module _ (N : ℕ) (T : List ℕ) (P : Proper N T) where
   -- the mesh is a reading of its splitting
-  itself-reading : IsReading Same (N + edges T) (split N T) (itself N T)
-  itself-reading = record {
+  itself-reading : {agree : Agreement} → Lawful agree → IsReading agree (N + edges T) (split N T) (itself N T)
+  itself-reading {agree} A = record {
     proper = P;
-    matched = subst (λ n. Matched Same (identity (N + edges T)) (identity n) (N + edges T) (split N T) (N + edges T)
+    matched = subst (λ n. Matched agree (identity (N + edges T)) (identity n) (N + edges T) (split N T) (N + edges T)
         (split N T)) (split-triangles N T)
-        (matched-identity (N + edges T) (split N T) (split-below N T (P .otherwise)));
+        (matched-identity A (N + edges T) (split N T) (split-below N T (P .otherwise)));
   }
 
   -- across the edge of centre 4j that ends at its corner i stands the coarse vertex at corner i of j
@@ -249,9 +249,10 @@ module _ (N : ℕ) (T : List ℕ) (P : Proper N T) where
           (centre-fourth N T k c .1) (centre-across (k / 4) i (centre-fourth N T k c .0) b)
 
   -- the mesh is its splitting's returned reading in role 0
-  pub split-returned : 0 < triangles T → Returned Same (N + edges T) (split N T) 0 (itself N T)
-  split-returned l = record {
-    is = itself-reading;
+  pub split-returned : {agree : Agreement} → Lawful agree → 0 < triangles T
+      → Returned agree (N + edges T) (split N T) 0 (itself N T)
+  split-returned A l = record {
+    is = itself-reading A;
     inRole = centre (centre-first N T l);
     keptUpward = λ u v k m b. rw (kept-itself N T u k, kept-itself N T v m) b;
     centresUpward = λ j k c d b. rw (centre-itself N T j c, centre-itself N T k d) b;

@@ -1,22 +1,23 @@
--- Laws of the splitting: which half-edges are on the same edge, the numbering of the edge vertices, the entries of the
--- splitting, and which vertices stand on which of its triangles.
+-- Laws of the splitting: which half-edges are on the same edge and which vertices they join, the numbering of the edge
+-- vertices, the entries of the splitting, and which vertices stand on which of its triangles.
 use Prim.Native.Nat.{ℕ, zero, suc, _+_, _*_, _/_, _%_, _-_, _≤_, _<_, min, max}
 use native.Mathlib.Decide.{ℕ-discrete, decLt}
 use native.Mathlib.Nat.{add-zero}
 use native.Mathlib.Omega.{arith}
-use mathlib.Core.Path.{_≡_, refl, sym, ap, _∙_}
+use mathlib.Core.Path.{_≡_, refl, sym, ap, _∙_, subst₂}
 use mathlib.Core.Logic.{_≢_, _⊎_, inl, inr}
 use mathlib.Core.List.{List, _++_}
 use lib.Dec.{T as Passes, eqb, eqb→eq}
 use lib.ListN.{length, length-append, List·getD-append}
 use lib.Seq.{getD-append-add}
 use Rattle.theory.specs.Counting.{count}
-use Rattle.theory.specs.Mesh.{at, triangles, On, Same}
+use Rattle.theory.specs.Mesh.{at, triangles, On, HasEdge, Same}
 use Rattle.theory.specs.Splitting.{next, lesser, greater, sameEdge, firstOn, isFirst, edges, edgeNo}
 use Rattle.theory.specs.Splitting.{four, fours, split}
 use Rattle.theory.proofs.Tests.{and-sound, and-complete, eq→eqb}
 use Rattle.theory.proofs.Corners.{corner-triangle, corner-place, triangle-place, corner-inside, corners-follow}
-use Rattle.theory.proofs.Corners.{Ends, forth, back}
+use Rattle.theory.proofs.Corners.{next-triangle, before-place, before-next, Ends, forth, back}
+use Rattle.theory.proofs.Mesh.{corners-apart}
 use Rattle.theory.proofs.Counting.{count-le, count-grows, count-injective, count-hit}
 use Rattle.theory.proofs.Counting.{firstFrom-le, firstFrom-passes, firstFrom-before}
 
@@ -96,40 +97,6 @@ ends-sameEdge T g h p q = record { low = omega arith; high = omega arith }
 pub ends-sameEdge-crossed : (T : List ℕ) (g h : ℕ) → at T g ≡ at T (next h) → at T (next g) ≡ at T h → SameEdge T g h
 ends-sameEdge-crossed T g h p q = record { low = omega arith; high = omega arith }
 
--- triangles with the same vertices have the same edges
-pub same-edges : (T : List ℕ) → length T ≡ 3 * triangles T
-    → ((c d : ℕ) → c < length T → d < length T → c / 3 ≡ d / 3 → at T c ≡ at T d → c ≡ d)
-    → (k l h : ℕ) → Same T k T l → h < length T → h / 3 ≡ k → (g : ℕ) × (g < length T) × (g / 3 ≡ l) × SameEdge T h g
-same-edges T whole different k l h same b t = go (same .there (at T h) from) (same .there (at T (next h)) to)
-  where
-    from : On T k (at T h)
-    from = record { corner = h; inside = b; triangle = t; holds = refl }
-
-    to : On T k (at T (next h))
-    to = record { corner = next h; inside = omega arith; triangle = omega arith; holds = refl }
-
-    go : On T l (at T h) → On T l (at T (next h)) → (g : ℕ) × (g < length T) × (g / 3 ≡ l) × SameEdge T h g
-    go o p = elim (corners-follow (o .corner) (p .corner) (o .triangle ∙ sym (p .triangle)) apart) [
-      | inl e ↦ (
-        o .corner,
-        o .inside,
-        o .triangle,
-        ends-sameEdge T h (o .corner) (sym (o .holds)) (sym (p .holds) ∙ ap (at T) (sym e)),
-      )
-      | inr e ↦ (
-        p .corner,
-        p .inside,
-        p .triangle,
-        ends-sameEdge-crossed T h (p .corner) (sym (o .holds) ∙ ap (at T) (sym e)) (sym (p .holds)),
-      )
-    ]
-      where
-        apart : o .corner ≢ p .corner
-        apart e = absurd (omega (
-          arith,
-          different h (next h) b (to .inside) (omega arith) (sym (o .holds) ∙ ap (at T) e ∙ p .holds),
-        ))
-
 -- ---- the vertices that a half-edge joins
 
 -- half-edge h joins the vertices a and b, one way round or the other
@@ -172,6 +139,86 @@ joins-ends (along p q) (along r s) = inl (sym p ∙ r, sym q ∙ s)
 joins-ends (along p q) (against r s) = inr (sym p ∙ r, sym q ∙ s)
 joins-ends (against p q) (along r s) = inr (sym q ∙ s, sym p ∙ r)
 joins-ends (against p q) (against r s) = inl (sym q ∙ s, sym p ∙ r)
+
+-- ---- the sides of a triangle
+
+-- a half-edge of triangle k joins the vertices u and v
+pub record Side (T : List ℕ) (k u v : ℕ) : Type 0 where
+  pub half : ℕ
+  pub inside : half < length T
+  pub triangle : half / 3 ≡ k
+  pub joins : Joins T half u v
+
+-- such half-edges are on the same edge
+pub sides-sameEdge : {T : List ℕ} {k l u v : ℕ} (a : Side T k u v) (b : Side T l u v) → SameEdge T (a .half) (b .half)
+sides-sameEdge a b = joins-sameEdge (a .joins) (b .joins)
+
+-- and one that joins the ends of h is on the edge of h
+pub side-sameEdge : {T : List ℕ} {k : ℕ} (h : ℕ) (s : Side T k (at T h) (at T (next h))) → SameEdge T (s .half) h
+side-sameEdge h s = joins-sameEdge (s .joins) (along refl refl)
+
+-- two different vertices of a triangle are the ends of one of its half-edges
+pub edge-side : {T : List ℕ} {k u v : ℕ} → HasEdge T k u v → Side T k u v
+edge-side {T} {k} {u} {v} e =
+    go (corners-follow (c .corner) (d .corner) (c .triangle ∙ sym (d .triangle)) (corners-apart c d (e .differ)))
+  where
+    c : On T k u
+    c = e .oneEnd
+
+    d : On T k v
+    d = e .otherEnd
+
+    go : (next (c .corner) ≡ d .corner) ⊎ (next (d .corner) ≡ c .corner) → Side T k u v
+    go (inl p) = record {
+      half = c .corner;
+      inside = c .inside;
+      triangle = c .triangle;
+      joins = along (c .holds) (ap (at T) p ∙ d .holds);
+    }
+    go (inr p) = record {
+      half = d .corner;
+      inside = d .inside;
+      triangle = d .triangle;
+      joins = against (d .holds) (ap (at T) p ∙ c .holds);
+    }
+
+-- so an edge that triangle l has in common with triangle k is the side of k that ends at some corner
+pub shared-side : {T : List ℕ} {k l u v : ℕ} → HasEdge T k u v → HasEdge T l u v
+    → (i : ℕ) × (i < 3) × HasEdge T l (at T (3 * k + (i + 2) % 3)) (at T (3 * k + i))
+shared-side {T} {k} {l} {u} {v} e f = (next h % 3, omega arith, ends (edge-side e .joins))
+  where
+    h : ℕ
+    h = edge-side e .half
+
+    here : next h / 3 ≡ k
+    here = next-triangle h ∙ edge-side e .triangle
+
+    from : at T (3 * k + (next h % 3 + 2) % 3) ≡ at T h
+    from = ap (at T) (before-place (next h) k here ∙ before-next h)
+
+    to : at T (3 * k + next h % 3) ≡ at T (next h)
+    to = ap (at T) (triangle-place (next h) k here)
+
+    ends : Joins T h u v → HasEdge T l (at T (3 * k + (next h % 3 + 2) % 3)) (at T (3 * k + next h % 3))
+    ends (along p q) = subst₂ (HasEdge T l) (sym (from ∙ p)) (sym (to ∙ q)) f
+    ends (against p q) = subst₂ (HasEdge T l) (sym (from ∙ p)) (sym (to ∙ q))
+        (record { differ = λ z. f .differ (sym z); oneEnd = f .otherEnd; otherEnd = f .oneEnd })
+
+-- and triangles with the same vertices have the same sides
+pub same-side : (T : List ℕ) → length T ≡ 3 * triangles T
+    → ((c d : ℕ) → c < length T → d < length T → c / 3 ≡ d / 3 → at T c ≡ at T d → c ≡ d)
+    → (k l h : ℕ) → Same T k T l → h < length T → h / 3 ≡ k → Side T l (at T h) (at T (next h))
+same-side T whole different k l h same b t =
+    edge-side (record { differ = apart; oneEnd = same .there (at T h) from; otherEnd = same .there (at T (next h)) to })
+  where
+    from : On T k (at T h)
+    from = record { corner = h; inside = b; triangle = t; holds = refl }
+
+    to : On T k (at T (next h))
+    to = record { corner = next h; inside = omega arith; triangle = omega arith; holds = refl }
+
+    apart : at T h ≢ at T (next h)
+    apart e = absurd (omega (arith, different h (next h) b (to .inside) (omega arith) e))
 
 -- ---- the first appearance of an edge
 

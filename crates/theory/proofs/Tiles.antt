@@ -2,21 +2,19 @@
 -- list W holds for each tile the row of the vertices across, and for every other triangle a row of three equal
 -- entries. From a centre of a reading, the rows of W that are reached over shared edges are exactly the centres.
 use Prim.Native.Nat.{ℕ, suc, _+_, _*_, _%_, _<_}
-use native.Mathlib.Nat.{zero-add}
 use native.Mathlib.Omega.{arith}
 use mathlib.Core.Path.{_≡_, refl, sym, ap, _∙_, subst}
 use mathlib.Core.Logic.{_≢_, _⊎_, inl, inr}
 use mathlib.Core.List.{List}
 use lib.ListN.{length}
 use Rattle.theory.specs.Mesh.{at, triangles, On, HasEdge, Regular, Same, Share, Reach, here, step}
-use Rattle.theory.specs.Mesh.{OtherwiseProper, Proper}
+use Rattle.theory.specs.Mesh.{Proper}
 use Rattle.theory.specs.Reading.{Reading, IsReading, Kept, Centre, RoleOf, centre, corner}
 use Rattle.theory.proofs.Mesh.{on-place, regular-only, edge-across, reach-trans, reach-sym, reach-below}
 use Rattle.theory.proofs.Mesh.{on-triangle, on-vertex, side, side-to}
-use Rattle.theory.proofs.Centres
 use Rattle.theory.proofs.Centres.{coarseOf, vertex-apart, not-both, centre-or-not, centre-below}
 use Rattle.theory.proofs.Centres.{kept-numbers, centre-numbers, across-centre, across-corner}
-use Rattle.theory.proofs.Centres.{centre-regular, CentreOver}
+use Rattle.theory.proofs.Centres.{centre-regular, CentreOver, corner-over}
 use Rattle.theory.proofs.Rows.{Opposite, edge-at, opposite-unique, opposite-apart, opposite-hit}
 
 -- ---- tiles, their rows, and the start
@@ -36,24 +34,17 @@ pub record Covering (T W : List ℕ) : Type 0 where
   pub long : length W ≡ length T
   pub row : (k : ℕ) → k < triangles T → Row T W k
 
--- where the search for a role starts: triangle 0 itself, or the triangle across the side opposite its corner
-pub data Start (T : List ℕ) : ℕ → ℕ → Type 0 where
-  own : Start T 0 0
-  beside : (i k : ℕ) → i < 3 → k ≢ 0 → Regular T (at T ((i + 1) % 3)) (at T ((i + 2) % 3))
-      → HasEdge T k (at T ((i + 1) % 3)) (at T ((i + 2) % 3)) → Start T (suc i) k
+-- where the search for a role of triangle k starts: at k itself, or at the triangle across the side opposite its corner
+pub data Start (T : List ℕ) (k : ℕ) : ℕ → ℕ → Type 0 where
+  own : Start T k 0 k
+  beside : (i s : ℕ) → i < 3 → s ≢ k → Regular T (at T (3 * k + (i + 1) % 3)) (at T (3 * k + (i + 2) % 3))
+      → HasEdge T s (at T (3 * k + (i + 1) % 3)) (at T (3 * k + (i + 2) % 3)) → Start T k (suc i) s
 
 -- vertex v stands in a row that is reached from row s
 pub record InRow (W : List ℕ) (s v : ℕ) : Type 0 where
   pub row : ℕ
   pub reached : Reach W s row
   pub on : On W row v
-
--- ---- the sides of triangle 0
-
--- the side between two corners of triangle 0
-first-side : {N : ℕ} {T : List ℕ} → OtherwiseProper N T → 0 < triangles T
-    → (i j : ℕ) → i < 3 → j < 3 → i ≢ j → HasEdge T 0 (at T i) (at T j)
-first-side P l i j a b n = simp zero-add at (side P 0 i j l a b n)
 
 -- ---- from a tile, only tiles are reached
 
@@ -246,29 +237,13 @@ module _ (N : ℕ) (T : List ℕ) (P : Proper N T) (W : List ℕ) (cover : Cover
         (edge-across (record { differ = f .differ; oneEnd = d .otherEnd; otherEnd = e .otherEnd }) (λ g. n (sym g))
         (d .oneEnd) (d .differ) (e .differ))
 
-    module _ (l : 0 < triangles T) (i : ℕ) (b : i < 3) where
-      -- the side of triangle 0 that leaves corner i
-      leaving : HasEdge T 0 (at T i) (at T ((i + 1) % 3))
-      leaving = first-side (P .otherwise) l i ((i + 1) % 3) b (omega arith) (omega arith)
-
-      -- the side that enters it
-      entering : HasEdge T 0 (at T i) (at T ((i + 2) % 3))
-      entering = first-side (P .otherwise) l i ((i + 2) % 3) b (omega arith) (omega arith)
-
-      -- and the side opposite
-      opposite : HasEdge T 0 (at T ((i + 1) % 3)) (at T ((i + 2) % 3))
-      opposite = first-side (P .otherwise) l ((i + 1) % 3) ((i + 2) % 3) (omega arith) (omega arith) (omega arith)
-
-      -- over which a centre is if corner i is kept
-      corner-over : Kept r (at T (3 * 0 + i)) → CentreOver T r 0 (at T ((i + 1) % 3)) (at T ((i + 2) % 3))
-      corner-over a = simp zero-add at (Centres.corner-over N T (P .otherwise) r R 0 i l b a)
-
-    -- in a role, the start is there
-    pub start-exists : (ρ : ℕ) → 0 < triangles T → RoleOf T r 0 ρ → (s : ℕ) × Start T ρ s
-    start-exists ρ l (centre c) = (0, own)
-    start-exists ρ l (corner i b _ a) = start (corner-over l i b a)
+    -- in a role of triangle k, the start is there
+    pub start-exists : (k ρ : ℕ) → RoleOf T r k ρ → (s : ℕ) × Start T k ρ s
+    start-exists k ρ (centre c) = (k, own)
+    start-exists k ρ (corner i b l a) = start (corner-over N T (P .otherwise) r R k i l b a)
       where
-        start : CentreOver T r 0 (at T ((i + 1) % 3)) (at T ((i + 2) % 3)) → (s : ℕ) × Start T (suc i) s
+        start : CentreOver T r k (at T (3 * k + (i + 1) % 3)) (at T (3 * k + (i + 2) % 3))
+            → (s : ℕ) × Start T k (suc i) s
         start o = (
           o .triangle,
           beside i (o .triangle) b (o .other)
@@ -276,15 +251,20 @@ module _ (N : ℕ) (T : List ℕ) (P : Proper N T) (W : List ℕ) (cover : Cover
         )
 
     -- and is a centre: the side has only one other triangle
-    pub start-centre : (ρ s : ℕ) → 0 < triangles T → RoleOf T r 0 ρ → Start T ρ s → Centre r s
-    start-centre ρ s l (centre c) own = c
-    start-centre ρ s l (corner i b _ a) (beside j k _ n g e) = same (corner-over l i b a)
+    pub start-centre : (k ρ s : ℕ) → RoleOf T r k ρ → Start T k ρ s → Centre r s
+    start-centre k ρ s (centre c) own = c
+    start-centre k ρ s (corner i b l a) (beside j _ _ n g e) = same (corner-over N T (P .otherwise) r R k i l b a)
       where
-        same : CentreOver T r 0 (at T ((i + 1) % 3)) (at T ((i + 2) % 3)) → Centre r k
-        same o = subst (Centre r) (regular-only T 0 _ _ _ _ g (opposite l i b) (o .has) e (o .other) n) (o .is)
+        opposite : HasEdge T k (at T (3 * k + (i + 1) % 3)) (at T (3 * k + (i + 2) % 3))
+        opposite = side (P .otherwise) k ((i + 1) % 3) ((i + 2) % 3) l (omega arith) (omega arith) (omega arith)
 
-    -- and where the start is a centre, triangle 0 has the role
-    pub centre-start : (ρ s : ℕ) → 0 < triangles T → Start T ρ s → Centre r s → RoleOf T r 0 ρ
-    centre-start ρ s l own c = centre c
-    centre-start ρ s l (beside i k b n _ e) c =
-        corner i b l (rw zero-add (over-kept k 0 (at T i) _ _ c n e (leaving l i b) (entering l i b)))
+        same : CentreOver T r k (at T (3 * k + (i + 1) % 3)) (at T (3 * k + (i + 2) % 3)) → Centre r s
+        same o = subst (Centre r) (regular-only T k _ _ _ _ g opposite (o .has) e (o .other) n) (o .is)
+
+    -- and where the start is a centre, triangle k has the role
+    pub centre-start : (k ρ s : ℕ) → k < triangles T → Start T k ρ s → Centre r s → RoleOf T r k ρ
+    centre-start k ρ s l own c = centre c
+    centre-start k ρ s l (beside i _ b n _ e) c =
+        corner i b l (over-kept s k (at T (3 * k + i)) _ _ c n e
+        (side (P .otherwise) k i ((i + 1) % 3) l b (omega arith) (omega arith))
+        (side (P .otherwise) k i ((i + 2) % 3) l b (omega arith) (omega arith)))

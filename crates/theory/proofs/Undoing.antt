@@ -15,7 +15,7 @@ use lib.Seq.{ext-getD}
 use Rattle.theory.specs.Mesh.{at, triangles, On, HasEdge, Same, Reach, OtherwiseProper, Proper}
 use Rattle.theory.specs.Counting.{count, firstFrom}
 use Rattle.theory.specs.Splitting.{sameEdge, firstOn, isFirst, edgeNo}
-use Rattle.theory.specs.Reading.{Reading, Centre, ReadingIn, Returned}
+use Rattle.theory.specs.Reading.{Agreement, Reading, Centre, ReadingIn, Returned}
 use Rattle.theory.proofs.Tests.{
   decided,
   and-sound,
@@ -37,7 +37,8 @@ use Rattle.theory.proofs.Tests.{
   allBelow-complete,
 }
 use Rattle.theory.proofs.Finite.{tabulate, tabulate-length, tabulate-at}
-use Rattle.theory.proofs.Counting.{count-grows, count-injective, count-hit, firstFrom-passes, firstFrom-before}
+use Rattle.theory.proofs.Counting.{count-injective, firstFrom-passes, firstFrom-before}
+use Rattle.theory.proofs.Numbering.{count-ranks}
 use Rattle.theory.proofs.Mesh.{regular-other, third-vertex, edge-across, on-triangle, on-vertex}
 use Rattle.theory.proofs.Mesh.{corner-on, side-to}
 use Rattle.theory.proofs.Decide.{onTest, onTest-sound, onTest-complete}
@@ -45,15 +46,19 @@ use Rattle.theory.proofs.Decide.{hasEdgeTest, hasEdgeTest-sound, hasEdg
 use Rattle.theory.proofs.Decide.{regularTest, regularTest-sound, regularTest-complete}
 use Rattle.theory.proofs.Decide.{reached, reachTest, reachTest-sound, reachTest-complete}
 use Rattle.theory.proofs.Rows.{Opposite}
-use Rattle.theory.proofs.Centres.{not-both, kept-below, centre-below, centre-between, beside-centre}
+use Rattle.theory.proofs.Centres.{not-both, centre-below, centre-between, beside-centre}
 use Rattle.theory.proofs.Tiles.{IsTile, Row, Covering, Start, own, beside, InRow}
-use Rattle.theory.proofs.Tiles.{reached-centre, row-kept, start-exists, start-centre}
-use Rattle.theory.proofs.Built.{Ranked, Built}
+use Rattle.theory.proofs.Tiles.{reached-centre, centre-tile, row-kept, start-exists, start-centre}
+use Rattle.theory.proofs.Built.{Search, Ranked, Built}
+use Rattle.theory.proofs.Coarse.{row-inside, inRow-below}
 use Rattle.theory.proofs.Complete.{ranked-vertices, built-mesh, built-between, built-corner}
 use Rattle.theory.proofs.Complete.{found-vertices, found-triangles}
+use Rattle.theory.proofs.Agreement.{Implies, returned-same}
+use Rattle.theory.proofs.Lawful.{Lawful}
 use Rattle.theory.proofs.Canonical.{returned-exists}
 use Rattle.theory.proofs.Determined.{returned-in}
 use Rattle.theory.proofs.ReadingTests.{acrossTest, acrossTest-sound, acrossTest-complete}
+use Rattle.theory.proofs.ReadingTests.{AgreementTest, Decides}
 use Rattle.theory.proofs.ReadingTests.{returnedTest, returnedTest-sound, returnedTest-complete}
 
 -- ---- a choice by a test, and the first that passes
@@ -200,31 +205,32 @@ covering-is N T P = record { long = tabulate-length _ (length T); row = row }
 
 -- ---- the start
 
--- k is not triangle 0, and has the side opposite its corner i
-unfoldable pub besideTest : List ℕ → ℕ → ℕ → Bool
+-- s is not triangle k, and has the side opposite its corner i
+unfoldable pub besideTest : List ℕ → ℕ → ℕ → ℕ → Bool
 unfolding hasEdgeTest
-besideTest T i k = not (eqb k 0) && hasEdgeTest T k (at T ((i + 1) % 3)) (at T ((i + 2) % 3))
+besideTest T k i s = not (eqb s k) && hasEdgeTest T s (at T (3 * k + (i + 1) % 3)) (at T (3 * k + (i + 2) % 3))
 
--- where the search for a role starts
-unfoldable pub startOf : List ℕ → ℕ → ℕ
+-- where the search for a role of triangle k starts
+unfoldable pub startOf : List ℕ → ℕ → ℕ → ℕ
 unfolding besideTest firstFrom
-startOf T zero = 0
-startOf T (suc i) = firstFrom (besideTest T i) 0 (triangles T)
+startOf T k zero = k
+startOf T k (suc i) = firstFrom (besideTest T k i) 0 (triangles T)
 
 -- if there is a start, it is one
-start-found : {N : ℕ} {T : List ℕ} {ρ s : ℕ} → OtherwiseProper N T → Start T ρ s → Start T ρ (startOf T ρ)
+start-found : {N : ℕ} {T : List ℕ} {k ρ s : ℕ} → OtherwiseProper N T → Start T k ρ s → Start T k ρ (startOf T k ρ)
 unfolding startOf
 start-found P own = own
-start-found {T = T} P (beside i k b n g e) =
-    found (first-found (besideTest T i) (triangles T) k (on-triangle P (e .oneEnd))
-    (and-complete (not (eqb k 0)) (hasEdgeTest T k (at T ((i + 1) % 3)) (at T ((i + 2) % 3)))
-    (not-T (eqb k 0) (λ t. n (eqb→eq k 0 t))) (hasEdgeTest-complete T k _ _ e)) .1)
+start-found {T = T} {k} P (beside i s b n g e) =
+    found (first-found (besideTest T k i) (triangles T) s (on-triangle P (e .oneEnd))
+    (and-complete (not (eqb s k)) (hasEdgeTest T s (at T (3 * k + (i + 1) % 3)) (at T (3 * k + (i + 2) % 3)))
+    (not-T (eqb s k) (λ t. n (eqb→eq s k t))) (hasEdgeTest-complete T s _ _ e)) .1)
   where
-    found : So (besideTest T i (startOf T (suc i))) → Start T (suc i) (startOf T (suc i))
+    found : So (besideTest T k i (startOf T k (suc i))) → Start T k (suc i) (startOf T k (suc i))
     found t =
-        let s : ℕ = startOf T (suc i) in
-        let both = and-sound (not (eqb s 0)) (hasEdgeTest T s (at T ((i + 1) % 3)) (at T ((i + 2) % 3))) t in
-        beside i s b (λ z. T-not (eqb s 0) (both .0) (eq→eqb s 0 z)) g (hasEdgeTest-sound T s _ _ (both .1))
+        let s : ℕ = startOf T k (suc i) in
+        let both = and-sound (not (eqb s k))
+        (hasEdgeTest T s (at T (3 * k + (i + 1) % 3)) (at T (3 * k + (i + 2) % 3))) t in
+        beside i s b (λ z. T-not (eqb s k) (both .0) (eq→eqb s k z)) g (hasEdgeTest-sound T s _ _ (both .1))
 
 -- ---- the numbers of the rows reached and of their vertices, and the coarse mesh
 
@@ -238,15 +244,15 @@ unfoldable pub inRowTest : List ℕ → List ℕ → ℕ → Bool
 unfolding someOf onTest
 inRowTest W rows v = someOf (λ k. onTest W k v) rows
 
--- the number of each row
-unfoldable pub tileNumbers : List ℕ → ℕ → List ℕ
+-- the rank of each row
+unfoldable pub rowRanks : List ℕ → ℕ → List ℕ
 unfolding tabulate count isReached
-tileNumbers rows F = tabulate (count (isReached rows)) F
+rowRanks rows F = tabulate (count (isReached rows)) F
 
--- the number of each vertex
-unfoldable pub rankNumbers : List ℕ → List ℕ → ℕ → List ℕ
+-- the rank of each vertex
+unfoldable pub vertexRanks : List ℕ → List ℕ → ℕ → List ℕ
 unfolding tabulate count inRowTest
-rankNumbers W rows N = tabulate (count (inRowTest W rows)) N
+vertexRanks W rows N = tabulate (count (inRowTest W rows)) N
 
 -- k is the row with the number j
 unfoldable pub numberedTest : List ℕ → ℕ → ℕ → Bool
@@ -256,8 +262,8 @@ numberedTest rows j k = isReached rows k && eqb (count (isReached rows) k) j
 -- the rows in the order of their numbers, with their vertices' numbers for entries
 unfoldable pub coarseMesh : List ℕ → List ℕ → List ℕ → ℕ → List ℕ
 unfolding tabulate numberedTest firstFrom
-coarseMesh W rows rank F =
-    tabulate (λ c. at rank (at W (3 * firstFrom (numberedTest rows (c / 3)) 0 F + c % 3)))
+coarseMesh W rows vertexRank F =
+    tabulate (λ c. at vertexRank (at W (3 * firstFrom (numberedTest rows (c / 3)) 0 F + c % 3)))
     (3 * count (isReached rows) F)
 
 -- ---- the maps
@@ -270,9 +276,9 @@ standsTest T rows v c = isReached rows (c / 3) && eqb (at T c) v
 -- the number of a vertex between: that of the half-edge of the first such corner
 unfoldable pub betweenNumber : List ℕ → List ℕ → List ℕ → ℕ → List ℕ → ℕ → ℕ
 unfolding standsTest edgeNo isFirst firstOn sameEdge count firstFrom
-betweenNumber T rows tile M C v =
+betweenNumber T rows rank M C v =
     let c : ℕ = firstFrom (standsTest T rows v) 0 (length T) in
-    edgeNo M C (3 * at tile (c / 3) + c % 3)
+    edgeNo M C (3 * at rank (c / 3) + c % 3)
 
 -- k is a reached row's triangle, and its side that ends at corner i is a side of another triangle l
 unfoldable pub sideOverTest : List ℕ → List ℕ → ℕ → ℕ → ℕ → Bool
@@ -288,54 +294,51 @@ overTest T rows l c = sideOverTest T rows l (c / 3) (c % 3)
 -- the number of a triangle over a side of such a triangle, by the first such corner
 unfoldable pub cornerNumber : List ℕ → List ℕ → List ℕ → ℕ → ℕ
 unfolding overTest firstFrom
-cornerNumber T rows tile l =
+cornerNumber T rows rank l =
     let c : ℕ = firstFrom (overTest T rows l) 0 (length T) in
-    4 * at tile (c / 3) + suc (c % 3)
+    4 * at rank (c / 3) + suc (c % 3)
 
 -- each vertex has its rank or its number between, each triangle four times its row's number or its number at a corner
 unfoldable pub vertexNumbers : ℕ → List ℕ → List ℕ → List ℕ → List ℕ → List ℕ → ℕ → List ℕ → List ℕ
 unfolding tabulate inRowTest betweenNumber
-vertexNumbers N T W rows rank tile M C =
-    tabulate (λ v. cond (inRowTest W rows v) (at rank v) (betweenNumber T rows tile M C v)) N
+vertexNumbers N T W rows vertexRank rank M C =
+    tabulate (λ v. cond (inRowTest W rows v) (at vertexRank v) (betweenNumber T rows rank M C v)) N
 
 unfoldable pub triangleNumbers : List ℕ → List ℕ → List ℕ → List ℕ
 unfolding tabulate isReached cornerNumber
-triangleNumbers T rows tile =
-    tabulate (λ l. cond (isReached rows l) (4 * at tile l) (cornerNumber T rows tile l)) (triangles T)
+triangleNumbers T rows rank =
+    tabulate (λ l. cond (isReached rows l) (4 * at rank l) (cornerNumber T rows rank l)) (triangles T)
 
 -- the reading made from the rows reached
 unfoldable pub readingFrom : ℕ → List ℕ → List ℕ → List ℕ → Reading
-unfolding rankNumbers tileNumbers coarseMesh vertexNumbers triangleNumbers
+unfolding vertexRanks rowRanks coarseMesh vertexNumbers triangleNumbers
 readingFrom N T W rows =
-    let rank : List ℕ = rankNumbers W rows N in
-    let tile : List ℕ = tileNumbers rows (triangles T) in
+    let vertexRank : List ℕ = vertexRanks W rows N in
+    let rank : List ℕ = rowRanks rows (triangles T) in
     let M : ℕ = count (inRowTest W rows) N in
-    let C : List ℕ = coarseMesh W rows rank (triangles T) in
+    let C : List ℕ = coarseMesh W rows vertexRank (triangles T) in
     record {
       vertices = M;
       mesh = C;
-      vertexMap = vertexNumbers N T W rows rank tile M C;
-      triangleMap = triangleNumbers T rows tile;
+      vertexMap = vertexNumbers N T W rows vertexRank rank M C;
+      triangleMap = triangleNumbers T rows rank;
     }
 
 -- ---- where there is a returned reading, it is this one
 
-module _ (N : ℕ) (T : List ℕ) (P : Proper N T) (some : 0 < triangles T) (W : List ℕ) (cover : Covering T W)
-    (ρ : ℕ) (r : Reading) (R : Returned Same N T ρ r) (s : ℕ) (start : Start T ρ s) where
+module _ (N : ℕ) (T : List ℕ) (P : Proper N T) (W : List ℕ) (cover : Covering T W) (ρ : ℕ) (r : Reading)
+    (R : Returned Same N T ρ r) (s : ℕ) (start : Centre r s) where
   rows : List ℕ
   rows = reached W s
 
-  start-is-centre : Centre r s
-  start-is-centre = start-centre N T P W cover r (R .is) ρ s some (R .inRole) start
-
-  -- a row reached is that of a triangle
-  row-inside : (k : ℕ) → Reach W s k → k < triangles T
-  row-inside k p =
-      centre-below N T (P .otherwise) r (R .is) k (reached-centre N T P W cover r (R .is) s k start-is-centre p)
-
-  -- and its vertices are vertices
-  in-row-inside : (v : ℕ) → InRow W s v → v < N
-  in-row-inside v p = kept-below N T (P .otherwise) r (R .is) v (row-kept N T P W cover r (R .is) s v start-is-centre p)
+  -- the start is a tile, since it is a centre
+  search : Search N T W s
+  search = record {
+    proper = P;
+    cover = cover;
+    inside = centre-below N T (P .otherwise) r (R .is) s start;
+    starts = centre-tile N T P W cover r (R .is) s start;
+  }
 
   -- the tests are right
   isReached-sound : (k : ℕ) → So (isReached rows k) → Reach W s k
@@ -366,120 +369,104 @@ module _ (N : ℕ) (T : List ℕ) (P : Proper N T) (some : 0 < triangles T) (W :
   F : ℕ
   F = count (isReached rows) (triangles T)
 
-  tile-at : (k : ℕ) → Reach W s k → at (tileNumbers rows (triangles T)) k ≡ count (isReached rows) k
-  unfolding tileNumbers
-  tile-at k p = tabulate-at (count (isReached rows)) (triangles T) k (row-inside k p)
+  rank-at : (k : ℕ) → Reach W s k → at (rowRanks rows (triangles T)) k ≡ count (isReached rows) k
+  unfolding rowRanks
+  rank-at k p = tabulate-at (count (isReached rows)) (triangles T) k (row-inside search k p)
 
-  rank-at : (v : ℕ) → InRow W s v → at (rankNumbers W rows N) v ≡ count (inRowTest W rows) v
-  unfolding rankNumbers
-  rank-at v p = tabulate-at (count (inRowTest W rows)) N v (in-row-inside v p)
-
-  -- the rows and the vertices are numbered upward
-  numbers-ranked : Ranked W s M F (rankNumbers W rows N) (tileNumbers rows (triangles T))
-  unfolding M F
+  -- the vertices and the rows are numbered upward
+  numbers-ranked : Ranked W s M F (vertexRanks W rows N) (rowRanks rows (triangles T))
+  unfolding M F vertexRanks rowRanks
   numbers-ranked = record {
-    rankBelow = λ v p. rw (rank-at v p)
-        (count-grows (inRowTest W rows) v N (in-row-inside v p) (inRowTest-complete v p));
-    rankUpward = λ u v p q l. rw (rank-at u p, rank-at v q)
-        (count-grows (inRowTest W rows) u v l (inRowTest-complete u p));
-    rankOnto = λ y l. vertex y (count-hit (inRowTest W rows) N y l);
-    tileBelow = λ k p. rw (tile-at k p)
-        (count-grows (isReached rows) k (triangles T) (row-inside k p) (isReached-complete k p));
-    tileUpward = λ j k p q l. rw (tile-at j p, tile-at k q)
-        (count-grows (isReached rows) j k l (isReached-complete j p));
-    tileOnto = λ j l. row j (count-hit (isReached rows) (triangles T) j l);
+    vertices = count-ranks (inRowTest W rows) N (λ v p. (inRow-below search v p, inRowTest-complete v p))
+        (λ v _. inRowTest-sound v) (tabulate-at (count (inRowTest W rows)) N);
+    rows = count-ranks (isReached rows) (triangles T) (λ k p. (row-inside search k p, isReached-complete k p))
+        (λ k _. isReached-sound k) (tabulate-at (count (isReached rows)) (triangles T));
   }
-    where
-      vertex : (y : ℕ) → (v : ℕ) × (v < N) × So (inRowTest W rows v) × (count (inRowTest W rows) v ≡ y)
-          → (v : ℕ) × InRow W s v × (at (rankNumbers W rows N) v ≡ y)
-      vertex y (v, l, t, e) = (v, inRowTest-sound v t, rank-at v (inRowTest-sound v t) ∙ e)
 
-      row : (j : ℕ) → (k : ℕ) × (k < triangles T) × So (isReached rows k) × (count (isReached rows) k ≡ j)
-          → (k : ℕ) × Reach W s k × (at (tileNumbers rows (triangles T)) k ≡ j)
-      row j (k, l, t, e) = (k, isReached-sound k t, tile-at k (isReached-sound k t) ∙ e)
+  vertexRank : List ℕ
+  vertexRank = vertexRanks W rows N
 
   rank : List ℕ
-  rank = rankNumbers W rows N
-
-  tile : List ℕ
-  tile = tileNumbers rows (triangles T)
+  rank = rowRanks rows (triangles T)
 
   C : List ℕ
-  C = coarseMesh W rows rank (triangles T)
+  C = coarseMesh W rows vertexRank (triangles T)
 
   -- the row with the number of k is k
-  numbered : (k : ℕ) → Reach W s k → firstFrom (numberedTest rows (at tile k)) 0 (triangles T) ≡ k
-  unfolding numberedTest tile
+  numbered : (k : ℕ) → Reach W s k → firstFrom (numberedTest rows (at rank k)) 0 (triangles T) ≡ k
+  unfolding numberedTest rank
   numbered k p =
-      found (first-found (numberedTest rows (at tile k)) (triangles T) k (row-inside k p)
-      (and-complete (isReached rows k) (eqb (count (isReached rows) k) (at tile k)) (isReached-complete k p)
-      (eq→eqb (count (isReached rows) k) (at tile k) (sym (tile-at k p)))) .1)
+      found (first-found (numberedTest rows (at rank k)) (triangles T) k (row-inside search k p)
+      (and-complete (isReached rows k) (eqb (count (isReached rows) k) (at rank k)) (isReached-complete k p)
+      (eq→eqb (count (isReached rows) k) (at rank k) (sym (rank-at k p)))) .1)
     where
       l : ℕ
-      l = firstFrom (numberedTest rows (at tile k)) 0 (triangles T)
+      l = firstFrom (numberedTest rows (at rank k)) 0 (triangles T)
 
-      found : So (numberedTest rows (at tile k) l) → l ≡ k
+      found : So (numberedTest rows (at rank k) l) → l ≡ k
       found t =
-          let both = and-sound (isReached rows l) (eqb (count (isReached rows) l) (at tile k)) t in
+          let both = and-sound (isReached rows l) (eqb (count (isReached rows) l) (at rank k)) t in
           count-injective (isReached rows) l k (both .0) (isReached-complete k p)
-          (eqb→eq (count (isReached rows) l) (at tile k) (both .1) ∙ tile-at k p)
+          (eqb→eq (count (isReached rows) l) (at rank k) (both .1) ∙ rank-at k p)
 
   coarse-length : length C ≡ 3 * F
   unfolding C coarseMesh F
   coarse-length = tabulate-length _ (3 * count (isReached rows) (triangles T))
 
   -- the coarse mesh is built
-  mesh-built : Built W s M C rank tile
-  unfolding C coarseMesh F rank tile
+  mesh-built : Built W s M C vertexRank rank
+  unfolding C coarseMesh F vertexRank rank
   mesh-built = record {
-    ranked = subst (λ F. Ranked W s M F rank tile) (omega (arith, coarse-length)) numbers-ranked;
+    ranked = subst (λ F. Ranked W s M F vertexRank rank) (omega (arith, coarse-length)) numbers-ranked;
     whole = omega (arith, coarse-length);
     rows = row;
   }
     where
-      row : (k i : ℕ) → Reach W s k → i < 3 → at C (3 * at tile k + i) ≡ at rank (at W (3 * k + i))
+      row : (k i : ℕ) → Reach W s k → i < 3 → at C (3 * at rank k + i) ≡ at vertexRank (at W (3 * k + i))
       row k i p b =
-          let c : ℕ = 3 * at tile k + i in
-          let own-row : c / 3 ≡ at tile k = omega arith in
+          let c : ℕ = 3 * at rank k + i in
+          let own-row : c / 3 ≡ at rank k = omega arith in
           let own-place : c % 3 ≡ i = omega arith in
-          tabulate-at _ (3 * F) c (omega (arith, numbers-ranked .tileBelow k p))
-          ∙ ap₂ (λ j h. at rank (at W (3 * firstFrom (numberedTest rows j) 0 (triangles T) + h))) own-row own-place
-          ∙ ap (λ l. at rank (at W (3 * l + i))) (numbered k p)
+          tabulate-at _ (3 * F) c (omega (arith, numbers-ranked .rows .below k p))
+          ∙ ap₂ (λ j h. at vertexRank (at W (3 * firstFrom (numberedTest rows j) 0 (triangles T) + h)))
+          own-row own-place
+          ∙ ap (λ l. at vertexRank (at W (3 * l + i))) (numbered k p)
 
   vertexMap : List ℕ
-  vertexMap = vertexNumbers N T W rows rank tile M C
+  vertexMap = vertexNumbers N T W rows vertexRank rank M C
 
   triangleMap : List ℕ
-  triangleMap = triangleNumbers T rows tile
+  triangleMap = triangleNumbers T rows rank
 
   -- corner i of a reached row's triangle is numbered as the reading numbers it
   reading-between : (k i : ℕ) → Reach W s k → i < 3
-      → at (r .vertexMap) (at T (3 * k + i)) ≡ edgeNo M C (3 * at tile k + i)
-  reading-between = built-between N T P some W cover ρ r R s start M C rank tile mesh-built
+      → at (r .vertexMap) (at T (3 * k + i)) ≡ edgeNo M C (3 * at rank k + i)
+  reading-between = built-between N T P W cover ρ r R s start M C vertexRank rank mesh-built
 
   -- and the triangle over its side
   reading-corner : (k i l : ℕ) → Reach W s k → i < 3 → l ≢ k
-      → HasEdge T l (at T (3 * k + (i + 2) % 3)) (at T (3 * k + i)) → at (r .triangleMap) l ≡ 4 * at tile k + suc i
-  reading-corner = built-corner N T P some W cover ρ r R s start M C rank tile mesh-built
+      → HasEdge T l (at T (3 * k + (i + 2) % 3)) (at T (3 * k + i)) → at (r .triangleMap) l ≡ 4 * at rank k + suc i
+  reading-corner = built-corner N T P W cover ρ r R s start M C vertexRank rank mesh-built
 
   reach-centre : (k : ℕ) → Reach W s k → Centre r k
-  reach-centre k = reached-centre N T P W cover r (R .is) s k start-is-centre
+  reach-centre k = reached-centre N T P W cover r (R .is) s k start
 
   -- a vertex of a reached row has its rank
-  map-kept : (v : ℕ) → InRow W s v → at vertexMap v ≡ at rank v
+  map-kept : (v : ℕ) → InRow W s v → at vertexMap v ≡ at vertexRank v
   unfolding vertexMap vertexNumbers
   map-kept v p =
-      tabulate-at (λ v. cond (inRowTest W rows v) (at rank v) (betweenNumber T rows tile M C v)) N v (in-row-inside v p)
-      ∙ taken (at rank v) (betweenNumber T rows tile M C v) (inRowTest W rows v) (inRowTest-complete v p)
+      tabulate-at (λ v. cond (inRowTest W rows v) (at vertexRank v) (betweenNumber T rows rank M C v)) N v
+      (inRow-below search v p)
+      ∙ taken (at vertexRank v) (betweenNumber T rows rank M C v) (inRowTest W rows v) (inRowTest-complete v p)
 
   -- a corner of a reached row's triangle is in no reached row
   corner-not-in-row : (k v : ℕ) → Reach W s k → On T k v → InRow W s v → ⊥
   corner-not-in-row k v p o q =
-      not-both N T (P .otherwise) r (R .is) v (row-kept N T P W cover r (R .is) s v start-is-centre q)
+      not-both N T (P .otherwise) r (R .is) v (row-kept N T P W cover r (R .is) s v start q)
       (centre-between N T (P .otherwise) r (R .is) k v (reach-centre k p) o)
 
   -- and has the number that the reading gives it
-  between-number : (k v : ℕ) → Reach W s k → On T k v → betweenNumber T rows tile M C v ≡ at (r .vertexMap) v
+  between-number : (k v : ℕ) → Reach W s k → On T k v → betweenNumber T rows rank M C v ≡ at (r .vertexMap) v
   unfolding betweenNumber standsTest
   between-number k v p o =
       found (first-found (standsTest T rows v) (length T) (o .corner) (o .inside)
@@ -489,7 +476,7 @@ module _ (N : ℕ) (T : List ℕ) (P : Proper N T) (some : 0 < triangles T) (W :
       c : ℕ
       c = firstFrom (standsTest T rows v) 0 (length T)
 
-      found : So (standsTest T rows v c) → edgeNo M C (3 * at tile (c / 3) + c % 3) ≡ at (r .vertexMap) v
+      found : So (standsTest T rows v c) → edgeNo M C (3 * at rank (c / 3) + c % 3) ≡ at (r .vertexMap) v
       found t =
           let both = and-sound (isReached rows (c / 3)) (eqb (at T c) v) t in
           let place : 3 * (c / 3) + c % 3 ≡ c = omega arith in
@@ -497,34 +484,34 @@ module _ (N : ℕ) (T : List ℕ) (P : Proper N T) (some : 0 < triangles T) (W :
           ∙ ap (at (r .vertexMap)) (ap (at T) place ∙ eqb→eq (at T c) v (both .1))
 
   map-between : (k i : ℕ) → Reach W s k → i < 3
-      → at vertexMap (at T (3 * k + i)) ≡ edgeNo M C (3 * at tile k + i)
+      → at vertexMap (at T (3 * k + i)) ≡ edgeNo M C (3 * at rank k + i)
   unfolding vertexMap vertexNumbers
   map-between k i p b =
       let v : ℕ = at T (3 * k + i) in
-      tabulate-at (λ v. cond (inRowTest W rows v) (at rank v) (betweenNumber T rows tile M C v)) N v
+      tabulate-at (λ v. cond (inRowTest W rows v) (at vertexRank v) (betweenNumber T rows rank M C v)) N v
       (on-vertex (P .otherwise) here)
-      ∙ left (at rank v) (betweenNumber T rows tile M C v) (inRowTest W rows v)
+      ∙ left (at vertexRank v) (betweenNumber T rows rank M C v) (inRowTest W rows v)
       (λ t. corner-not-in-row k v p here (inRowTest-sound v t))
       ∙ between-number k v p here ∙ reading-between k i p b
     where
       here : On T k (at T (3 * k + i))
-      here = corner-on (P .otherwise) k i (row-inside k p) b
+      here = corner-on (P .otherwise) k i (row-inside search k p) b
 
   -- a reached row's triangle has four times the row's number
-  map-centres : (k : ℕ) → Reach W s k → at triangleMap k ≡ 4 * at tile k
+  map-centres : (k : ℕ) → Reach W s k → at triangleMap k ≡ 4 * at rank k
   unfolding triangleMap triangleNumbers
   map-centres k p =
-      tabulate-at (λ l. cond (isReached rows l) (4 * at tile l) (cornerNumber T rows tile l)) (triangles T) k
-      (row-inside k p)
-      ∙ taken (4 * at tile k) (cornerNumber T rows tile k) (isReached rows k) (isReached-complete k p)
+      tabulate-at (λ l. cond (isReached rows l) (4 * at rank l) (cornerNumber T rows rank l)) (triangles T) k
+      (row-inside search k p)
+      ∙ taken (4 * at rank k) (cornerNumber T rows rank k) (isReached rows k) (isReached-complete k p)
 
   -- and a triangle over its side the number that the reading gives it
   corner-number : (k i l : ℕ) → Reach W s k → i < 3 → l ≢ k
-      → HasEdge T l (at T (3 * k + (i + 2) % 3)) (at T (3 * k + i)) → cornerNumber T rows tile l ≡ at (r .triangleMap) l
+      → HasEdge T l (at T (3 * k + (i + 2) % 3)) (at T (3 * k + i)) → cornerNumber T rows rank l ≡ at (r .triangleMap) l
   unfolding cornerNumber overTest sideOverTest
   corner-number k i l p b n h =
       found (first-found (overTest T rows l) (length T) (3 * k + i)
-      (omega (arith, P .otherwise .whole, row-inside k p))
+      (omega (arith, P .otherwise .whole, row-inside search k p))
       (subst₂ (λ m j. So (sideOverTest T rows l m j)) (omega arith) (omega arith)
       (and₃-complete (isReached rows k) (not (eqb l k))
       (hasEdgeTest T l (at T (3 * k + (i + 2) % 3)) (at T (3 * k + i))) (isReached-complete k p)
@@ -533,7 +520,7 @@ module _ (N : ℕ) (T : List ℕ) (P : Proper N T) (some : 0 < triangles T) (W :
       c : ℕ
       c = firstFrom (overTest T rows l) 0 (length T)
 
-      found : So (overTest T rows l c) → 4 * at tile (c / 3) + suc (c % 3) ≡ at (r .triangleMap) l
+      found : So (overTest T rows l c) → 4 * at rank (c / 3) + suc (c % 3) ≡ at (r .triangleMap) l
       found t =
           let all = and₃-sound (isReached rows (c / 3)) (not (eqb l (c / 3)))
           (hasEdgeTest T l (at T (3 * (c / 3) + (c % 3 + 2) % 3)) (at T (3 * (c / 3) + c % 3))) t in
@@ -542,25 +529,25 @@ module _ (N : ℕ) (T : List ℕ) (P : Proper N T) (some : 0 < triangles T) (W :
           (hasEdgeTest-sound T l (at T (3 * (c / 3) + (c % 3 + 2) % 3)) (at T (3 * (c / 3) + c % 3)) (all .2)))
 
   map-corners : (k i l : ℕ) → Reach W s k → i < 3 → l ≢ k
-      → HasEdge T l (at T (3 * k + (i + 2) % 3)) (at T (3 * k + i)) → at triangleMap l ≡ 4 * at tile k + suc i
+      → HasEdge T l (at T (3 * k + (i + 2) % 3)) (at T (3 * k + i)) → at triangleMap l ≡ 4 * at rank k + suc i
   unfolding triangleMap triangleNumbers
   map-corners k i l p b n h =
-      tabulate-at (λ l. cond (isReached rows l) (4 * at tile l) (cornerNumber T rows tile l)) (triangles T) l
+      tabulate-at (λ l. cond (isReached rows l) (4 * at rank l) (cornerNumber T rows rank l)) (triangles T) l
       (on-triangle (P .otherwise) (h .oneEnd))
-      ∙ left (4 * at tile l) (cornerNumber T rows tile l) (isReached rows l) unreached
+      ∙ left (4 * at rank l) (cornerNumber T rows rank l) (isReached rows l) unreached
       ∙ corner-number k i l p b n h ∙ reading-corner k i l p b n h
     where
       unreached : So (isReached rows l) → ⊥
       unreached t =
           beside-centre N T (P .otherwise) r (R .is) k l _ _ (reach-centre k p)
-          (side-to (P .otherwise) k i (row-inside k p) b) h n .0 (reach-centre l (isReached-sound l t))
+          (side-to (P .otherwise) k i (row-inside search k p) b) h n .0 (reach-centre l (isReached-sound l t))
 
   -- the maps are the reading's
   same-vertexMap : vertexMap ≡ r .vertexMap
   unfolding vertexMap vertexNumbers
   same-vertexMap =
       ext-getD 0 vertexMap (r .vertexMap) (long ∙ sym (R .is .matched .vertices .long))
-      (λ v l. found-vertices N T P some W cover ρ r R s start M C rank tile mesh-built vertexMap map-kept map-between v
+      (λ v l. found-vertices N T P W cover ρ r R s start M C vertexRank rank mesh-built vertexMap map-kept map-between v
       (omega (arith, long)))
     where
       long : length vertexMap ≡ N
@@ -570,7 +557,7 @@ module _ (N : ℕ) (T : List ℕ) (P : Proper N T) (some : 0 < triangles T) (W :
   unfolding triangleMap triangleNumbers
   same-triangleMap =
       ext-getD 0 triangleMap (r .triangleMap) (long ∙ sym (R .is .matched .faces .long))
-      (λ k l. found-triangles N T P some W cover ρ r R s start M C rank tile mesh-built triangleMap map-centres
+      (λ k l. found-triangles N T P W cover ρ r R s start M C vertexRank rank mesh-built triangleMap map-centres
       map-corners k (omega (arith, long)))
     where
       long : length triangleMap ≡ triangles T
@@ -578,10 +565,10 @@ module _ (N : ℕ) (T : List ℕ) (P : Proper N T) (some : 0 < triangles T) (W :
 
   -- so the reading is this one
   reading-is : readingFrom N T W (reached W s) ≡ r
-  unfolding readingFrom rows rank tile M C vertexMap triangleMap
+  unfolding readingFrom rows vertexRank rank M C vertexMap triangleMap
   reading-is =
-      joined (ranked-vertices N T P some W cover ρ r R s start M (triangles C) rank tile (mesh-built .ranked))
-      (built-mesh N T P some W cover ρ r R s start M C rank tile mesh-built) same-vertexMap same-triangleMap
+      joined (ranked-vertices N T P W cover ρ r R s start M (triangles C) vertexRank rank (mesh-built .ranked))
+      (built-mesh N T P W cover ρ r R s start M C vertexRank rank mesh-built) same-vertexMap same-triangleMap
     where
       joined : {m n : ℕ} {A B f g h j : List ℕ} → m ≡ n → A ≡ B → f ≡ g → h ≡ j
           → Path Reading (record { vertices = m; mesh = A; vertexMap = f; triangleMap = h })
@@ -590,48 +577,55 @@ module _ (N : ℕ) (T : List ℕ) (P : Proper N T) (some : 0 < triangles T) (W :
 
 -- ---- whether a role has a reading
 
--- what an undo in a role builds
+-- what an undo in a role of triangle 0 builds
 unfoldable pub undoing : ℕ → List ℕ → ℕ → Reading
 unfolding covering reached startOf readingFrom
 undoing N T ρ =
     let W : List ℕ = covering N T in
-    readingFrom N T W (reached W (startOf T ρ))
+    readingFrom N T W (reached W (startOf T 0 ρ))
 
 -- where the role has a returned reading, it is this
-pub returned-undoing : (N : ℕ) (T : List ℕ) (ρ : ℕ) (r : Reading) → Proper N T → 0 < triangles T
-    → Returned Same N T ρ r → undoing N T ρ ≡ r
+pub returned-undoing : (N : ℕ) (T : List ℕ) → Proper N T → {agree : Agreement} → Implies agree → (ρ : ℕ) (r : Reading)
+    → Returned agree N T ρ r → undoing N T ρ ≡ r
 unfolding undoing
-returned-undoing N T ρ r P some R = go (start-exists N T P W cover r (R .is) ρ some (R .inRole))
+returned-undoing N T P I ρ r R = go (start-exists N T P W cover r (S .is) 0 ρ (R .inRole))
   where
+    S : Returned Same N T ρ r
+    S = returned-same I R
+
     W : List ℕ
     W = covering N T
 
     cover : Covering T W
     cover = covering-is N T (P .otherwise)
 
-    go : (s : ℕ) × Start T ρ s → undoing N T ρ ≡ r
-    go (s, start) = reading-is N T P some W cover ρ r R (startOf T ρ) (start-found (P .otherwise) start)
+    go : (s : ℕ) × Start T 0 ρ s → undoing N T ρ ≡ r
+    go (s, start) = reading-is N T P W cover ρ r S (startOf T 0 ρ)
+        (start-centre N T P W cover r (S .is) 0 ρ _ (R .inRole) (start-found (P .otherwise) start))
 
 -- whether it is one
-unfoldable pub readingInTest : ℕ → List ℕ → ℕ → Bool
+unfoldable pub readingInTest : AgreementTest → ℕ → List ℕ → ℕ → Bool
 unfolding undoing returnedTest
-readingInTest N T ρ = returnedTest N T ρ (undoing N T ρ)
+readingInTest test N T ρ = returnedTest test N T ρ (undoing N T ρ)
 
--- then it is the returned one
-pub readingInTest-sound : (N : ℕ) (T : List ℕ) (ρ : ℕ) → So (readingInTest N T ρ) → Returned Same N T ρ (undoing N T ρ)
-unfolding readingInTest
-readingInTest-sound N T ρ t = returnedTest-sound N T ρ (undoing N T ρ) t
+module _ {agree : Agreement} {test : AgreementTest} (D : Decides agree test) where
+  -- then it is the returned one
+  pub readingInTest-sound : (N : ℕ) (T : List ℕ) (ρ : ℕ) → So (readingInTest test N T ρ)
+      → Returned agree N T ρ (undoing N T ρ)
+  unfolding readingInTest
+  readingInTest-sound N T ρ t = returnedTest-sound D N T ρ (undoing N T ρ) t
 
-pub readingInTest-complete : (N : ℕ) (T : List ℕ) (ρ : ℕ) → Proper N T → 0 < triangles T → ReadingIn Same N T ρ
-    → So (readingInTest N T ρ)
-unfolding readingInTest
-readingInTest-complete N T ρ P some R = go (returned-exists N T P ρ some R)
-  where
-    go : (r : Reading) × Returned Same N T ρ r → So (returnedTest N T ρ (undoing N T ρ))
-    go (r, S) = returnedTest-complete N T ρ (undoing N T ρ)
-        (subst (Returned Same N T ρ) (sym (returned-undoing N T ρ r P some S)) S)
+  module _ (A : Lawful agree) where
+    pub readingInTest-complete : (N : ℕ) (T : List ℕ) (ρ : ℕ) → Proper N T → ReadingIn agree N T ρ
+        → So (readingInTest test N T ρ)
+    unfolding readingInTest
+    readingInTest-complete N T ρ P R = go (returned-exists N T P A ρ R)
+      where
+        go : (r : Reading) × Returned agree N T ρ r → So (returnedTest test N T ρ (undoing N T ρ))
+        go (r, S) = returnedTest-complete D N T ρ (undoing N T ρ)
+            (subst (Returned agree N T ρ) (sym (returned-undoing N T P (A .implies) ρ r S)) S)
 
-unfoldable pub readingIn? : (N : ℕ) (T : List ℕ) (ρ : ℕ) → Proper N T → 0 < triangles T → Dec (ReadingIn Same N T ρ)
-unfolding readingInTest
-readingIn? N T ρ P some =
-    decided (readingInTest N T ρ) (λ t. returned-in (readingInTest-sound N T ρ t)) (readingInTest-complete N T ρ P some)
+    unfoldable pub readingIn? : (N : ℕ) (T : List ℕ) (ρ : ℕ) → Proper N T → Dec (ReadingIn agree N T ρ)
+    unfolding readingInTest
+    readingIn? N T ρ P = decided (readingInTest test N T ρ) (λ t. returned-in (readingInTest-sound N T ρ t))
+        (readingInTest-complete N T ρ P)

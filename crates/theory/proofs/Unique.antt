@@ -2,6 +2,7 @@
 -- two returned readings in one role are equal, and the coarse meshes of any two are the same apart from numbering and
 -- order.
 use Prim.Native.Nat.{ℕ, suc, _+_, _*_, _/_, _%_, _≤_, _<_}
+use native.Mathlib.Nat.{zero-add}
 use native.Mathlib.Decide.{ℕ-discrete}
 use native.Mathlib.Omega.{arith}
 use mathlib.Core.Path.{_≡_, refl, sym, ap, _∙_, subst, subst₂, subst₃}
@@ -11,12 +12,13 @@ use lib.ListN.{length}
 use lib.Seq.{ext-getD}
 use Rattle.theory.specs.Mesh.{at, triangles, On, HasEdge, Same, Share, Reach, Proper}
 use Rattle.theory.specs.Splitting.{split, edgeNo}
-use Rattle.theory.specs.Reading.{Reading, IsReading, Matched, renamed, Returned}
+use Rattle.theory.specs.Reading.{Agreement, Reading, IsReading, Matched, renamed, Returned}
 use Rattle.theory.specs.Reading.{Kept, Between, Centre, RoleOf, Across}
-use Rattle.theory.proofs.Finite.{match-size, match-same}
-use Rattle.theory.proofs.Numbering.{Numbers, numbers-of, Renumbers, numbers-matched, upward-agree}
-use Rattle.theory.proofs.Mesh.{on-place, edge-across, on-triangle, corner-on, side}
-use Rattle.theory.proofs.Renaming.{renumbers-matched}
+use Rattle.theory.proofs.Finite.{match-size, match-same, identity, identity-at}
+use Rattle.theory.proofs.Numbering.{listed, Numbers, numbers-of, Renumbers, numbers-matched, upward-agree}
+use Rattle.theory.proofs.Mesh.{on-place, edge-across, reach-trans, reach-sym, on-triangle, corner-on, side}
+use Rattle.theory.proofs.Agreement.{Implies, reading-same, returned-same}
+use Rattle.theory.proofs.Renaming.{renamed-identity, renumbers-matched}
 use Rattle.theory.proofs.Splitting.{edgeNo-hit}
 use Rattle.theory.proofs.Heart.{CoarseOn, coarse-on, half-on, two-between}
 use Rattle.theory.proofs.Centres.{splitting, coarseOf, on-there, on-from, kept-or-between, not-both}
@@ -24,7 +26,8 @@ use Rattle.theory.proofs.Centres.{centre-or-not, kept-below, centre-bel
 use Rattle.theory.proofs.Centres.{kept-numbers, centre-numbers, kept-no-centre}
 use Rattle.theory.proofs.Centres.{corner-kept, one-kept, beside-centre, across-centre, across-corner}
 use Rattle.theory.proofs.Centres.{CentreOver, corner-over}
-use Rattle.theory.proofs.Rows.{Opposite, opposite-unique, opposite-coarse, opposite-hit, opposite-same}
+use Rattle.theory.proofs.Rows.{Opposite, opposite-exists, opposite-unique}
+use Rattle.theory.proofs.Lawful.{Lawful}
 
 -- ---- a reading, and two
 
@@ -84,6 +87,11 @@ module _ (N : ℕ) (T : List ℕ) (P : Proper N T) where
       go : Centre r k ⊎ (Centre r k → ⊥) → (ρ : ℕ) × (ρ ≤ 3) × RoleOf T r k ρ
       go (inl c) = (0, omega arith, RoleOf.centre c)
       go (inr d) = kept (corner-kept N T (P .otherwise) r R k l d)
+
+  -- a triangle with a role is one of the triangles
+  role-below : (r : Reading) → IsReading Same N T r → (k ρ : ℕ) → RoleOf T r k ρ → k < triangles T
+  role-below r R k ρ (RoleOf.centre c) = centre-below N T (P .otherwise) r R k c
+  role-below r R k ρ (RoleOf.corner _ _ l _) = l
 
   -- ---- from triangle to triangle
 
@@ -188,37 +196,38 @@ module _ (N : ℕ) (T : List ℕ) (P : Proper N T) where
         hit (h, a, e) = go h (edge-corner v h (h % 3) l a e (omega arith) (omega arith))
             (edge-corner v h ((h % 3 + 1) % 3) l a e (omega arith) (omega arith))
 
-  -- ---- two readings in one role
+  -- ---- two readings in one role of a triangle
 
-  module _ (r s : Reading) (R : IsReading Same N T r) (S : IsReading Same N T s) (ρ : ℕ) (l : 0 < triangles T)
-      (rr : RoleOf T r 0 ρ) (ss : RoleOf T s 0 ρ) where
+  module _ (r s : Reading) (R : IsReading Same N T r) (S : IsReading Same N T s) (k ρ : ℕ)
+      (rr : RoleOf T r k ρ) (ss : RoleOf T s k ρ) where
     -- the readings agree on every triangle
-    all-agree : (k : ℕ) → k < triangles T → AgreeOn T r s k
-    all-agree k b = reach-agree r s R S 0 k
-        (record { there = role-there r s R S 0 ρ rr ss; back = role-there s r S R 0 ρ ss rr }) (P .connected k b)
+    all-agree : (l : ℕ) → l < triangles T → AgreeOn T r s l
+    all-agree l b = reach-agree r s R S k l
+        (record { there = role-there r s R S k ρ rr ss; back = role-there s r S R k ρ ss rr })
+        (reach-trans (reach-sym (P .connected k (role-below r R k ρ rr))) (P .connected l b))
 
     -- so a vertex kept in the one is kept in the other
     pub kept-agree : (v : ℕ) → Kept r v → Kept s v
     kept-agree v p = go (P .otherwise .used v (kept-below N T (P .otherwise) r R v p))
       where
-        go : (k : ℕ) × On T k v → Kept s v
-        go (k, o) = all-agree k (on-triangle (P .otherwise) o) .there v o p
+        go : (l : ℕ) × On T l v → Kept s v
+        go (l, o) = all-agree l (on-triangle (P .otherwise) o) .there v o p
 
     -- and a centre of the one is a centre of the other
-    pub centre-agree : (k : ℕ) → Centre r k → Centre s k
-    centre-agree k c = agree-centre r s R S k (all-agree k b) b c
+    pub centre-agree : (l : ℕ) → Centre r l → Centre s l
+    centre-agree l c = agree-centre r s R S l (all-agree l b) b c
       where
-        b : k < triangles T
-        b = centre-below N T (P .otherwise) r R k c
+        b : l < triangles T
+        b = centre-below N T (P .otherwise) r R l c
 
-  -- so in one role the readings keep the same vertices and have the same centres
-  alike : (r s : Reading) → IsReading Same N T r → IsReading Same N T s → (ρ : ℕ) → 0 < triangles T → RoleOf T r 0 ρ
-      → RoleOf T s 0 ρ → Alike r s
-  alike r s R S ρ l p q = record {
-    keptThere = kept-agree r s R S ρ l p q;
-    keptBack = kept-agree s r S R ρ l q p;
-    centreThere = centre-agree r s R S ρ l p q;
-    centreBack = centre-agree s r S R ρ l q p;
+  -- so in one role of a triangle the readings keep the same vertices and have the same centres
+  alike : (r s : Reading) → IsReading Same N T r → IsReading Same N T s → (k ρ : ℕ) → RoleOf T r k ρ → RoleOf T s k ρ
+      → Alike r s
+  alike r s R S k ρ p q = record {
+    keptThere = kept-agree r s R S k ρ p q;
+    keptBack = kept-agree s r S R k ρ q p;
+    centreThere = centre-agree r s R S k ρ p q;
+    centreBack = centre-agree s r S R k ρ q p;
   }
 
   -- ---- the coarse meshes of two readings
@@ -240,32 +249,68 @@ module _ (N : ℕ) (T : List ℕ) (P : Proper N T) where
     triangle-renumbers : Renumbers (Centre r) (coarseOf r) (triangles (r .mesh)) (coarseOf s) (triangles (s .mesh))
     triangle-renumbers = numbers-matched (centre-numbers N T (P .otherwise) r R) centre-others
 
-    -- the two coarse triangles of a centre have the same vertices
-    centre-same : (k : ℕ) → Centre r k
-        → Same (renamed (vertex-renumbers .list) (r .mesh)) (coarseOf r k) (s .mesh) (coarseOf s k)
-    centre-same k c = opposite-same N T (P .otherwise) r R (vertex-renumbers .list) (s .mesh) (at (s .vertexMap)) k
-        (coarseOf s k) c (vertex-renumbers .sends)
-        (λ i w b p x. opposite-coarse N T (P .otherwise) s S k i w (A .centreThere k c) b x)
-        (λ y o. hit y (opposite-hit N T (P .otherwise) s S k y (A .centreThere k c) o))
+  module _ {agree : Agreement} (A : Lawful agree) (r s : Reading) (R : IsReading agree N T r)
+      (S : IsReading agree N T s) (L : Alike r s) where
+    -- both are readings by `Same`
+    one-same : IsReading Same N T r
+    one-same = reading-same (A .implies) R
+
+    other-same : IsReading Same N T s
+    other-same = reading-same (A .implies) S
+
+    -- so there is a match of the numbers of their kept vertices
+    renumbered : Renumbers (Kept r) (at (r .vertexMap)) (r .vertices) (at (s .vertexMap)) (s .vertices)
+    renumbered = vertex-renumbers r s one-same other-same L
+
+    -- x is the number in s of the kept vertex opposite corner i of triangle k
+    abbrev OppositeNumber : ℕ → ℕ → ℕ → Type 0
+    OppositeNumber k i x = (w : ℕ) × Kept r w × Opposite T k i w × (x ≡ at (s .vertexMap) w)
+
+    -- the three numbers of a centre
+    opposite-numbers : (k : ℕ) → Centre r k
+        → (W : List ℕ) × (length W ≡ 3) × ((i : ℕ) → i < 3 → OppositeNumber k i (at W i))
+    opposite-numbers k c = listed 3 (λ i b. number i (opposite-exists N T (P .otherwise) r one-same k i c b))
       where
-        hit : (y : ℕ) → (i : ℕ) × (i < 3) × (w : ℕ) × Kept s w × Opposite T k i w × (at (s .vertexMap) w ≡ y)
-            → (i : ℕ) × (i < 3) × (w : ℕ) × Kept r w × Opposite T k i w × (at (s .vertexMap) w ≡ y)
-        hit y (i, b, w, p, x, e) = (i, b, w, A .keptBack w p, x, e)
+        number : (i : ℕ) → (w : ℕ) × Kept r w × Opposite T k i w → (x : ℕ) × OppositeNumber k i x
+        number i (w, p, o) = (at (s .vertexMap) w, (w, p, o, refl))
+
+    -- both coarse triangles of the centre agree with them, and so with one another
+    centre-agrees : (k : ℕ) → Centre r k
+        → agree (renamed (renumbered .list) (r .mesh)) (coarseOf r k) (s .mesh) (coarseOf s k)
+    centre-agrees k c = go (opposite-numbers k c)
+      where
+        go : (W : List ℕ) × (length W ≡ 3) × ((i : ℕ) → i < 3 → OppositeNumber k i (at W i))
+            → agree (renamed (renumbered .list) (r .mesh)) (coarseOf r k) (s .mesh) (coarseOf s k)
+        go (W, long, numbers) = A .transitive
+            (A .rows N T (P .otherwise) r R (renumbered .list) W k 0 c (omega arith)
+            (λ i w b p o. number i w b o ∙ sym (renumbered .sends w p)))
+            (A .symmetric (rw (renamed-identity (s .vertices) (s .mesh) (S .proper .otherwise .below)) at
+            (A .rows N T (P .otherwise) s S (identity (s .vertices)) W k 0 (L .centreThere k c) (omega arith)
+            (λ i w b p o. number i w b o ∙ sym (identity-at (s .vertices) _ (p .coarse))))))
+          where
+            number : (i w : ℕ) → i < 3 → Opposite T k i w → at W (3 * 0 + i) ≡ at (s .vertexMap) w
+            number i w b o = ap (at W) (zero-add i) ∙ one (numbers i b)
+              where
+                one : OppositeNumber k i (at W i) → at W i ≡ at (s .vertexMap) w
+                one (x, _, q, e) =
+                    e ∙ ap (at (s .vertexMap)) (opposite-unique N T (P .otherwise) r one-same k i x w c b q o)
 
     -- so the coarse meshes are matched
-    meshes-matched : Matched Same (vertex-renumbers .list) (triangle-renumbers .list) (r .vertices) (r .mesh)
-        (s .vertices) (s .mesh)
-    meshes-matched = renumbers-matched (vertex-renumbers .match) (centre-numbers N T (P .otherwise) r R)
-        triangle-renumbers refl centre-same
+    meshes-matched : Matched agree (renumbered .list) (triangle-renumbers r s one-same other-same L .list) (r .vertices)
+        (r .mesh) (s .vertices) (s .mesh)
+    meshes-matched = renumbers-matched (renumbered .match) (centre-numbers N T (P .otherwise) r one-same)
+        (triangle-renumbers r s one-same other-same L) refl centre-agrees
 
-  module _ (r s : Reading) (R : IsReading Same N T r) (S : IsReading Same N T s) (ρ : ℕ) (l : 0 < triangles T)
-      (rr : RoleOf T r 0 ρ) (ss : RoleOf T s 0 ρ) where
-    -- the coarse meshes are matched, vertices to vertices and triangles to triangles
-    pub coarse-matched : (f : List ℕ) × (g : List ℕ) × Matched Same f g (r .vertices) (r .mesh) (s .vertices) (s .mesh)
-    coarse-matched = (vertex-renumbers r s R S A .list, triangle-renumbers r s R S A .list, meshes-matched r s R S A)
-      where
-        A : Alike r s
-        A = alike r s R S ρ l rr ss
+  -- in one role of a triangle the coarse meshes are matched, vertices to vertices and triangles to triangles
+  pub coarse-matched : {agree : Agreement} → Lawful agree → (r s : Reading) → IsReading agree N T r
+      → IsReading agree N T s → (k ρ : ℕ) → RoleOf T r k ρ → RoleOf T s k ρ
+      → (f : List ℕ) × (g : List ℕ) × Matched agree f g (r .vertices) (r .mesh) (s .vertices) (s .mesh)
+  coarse-matched A r s R S k ρ p q = (
+    _,
+    _,
+    meshes-matched A r s R S
+        (alike r s (reading-same (A .implies) R) (reading-same (A .implies) S) k ρ p q),
+  )
 
   -- ---- returned readings
 
@@ -406,20 +451,22 @@ module _ (N : ℕ) (T : List ℕ) (P : Proper N T) where
         go (inr p) (inr q) = between-same v p q (between-two r (R .is) v p)
 
   -- the returned reading in a role is one
-  pub returned-unique : (r s : Reading) (ρ : ℕ) → 0 < triangles T → Returned Same N T ρ r → Returned Same N T ρ s
-      → r ≡ s
-  returned-unique r s ρ l R S = λ i. record {
-    vertices = vertices-same r s ρ R S A i;
-    mesh = mesh-same r s ρ R S A i;
+  pub returned-unique : {agree : Agreement} → Implies agree → (r s : Reading) (ρ : ℕ) → Returned agree N T ρ r
+      → Returned agree N T ρ s → r ≡ s
+  returned-unique I r s ρ R S = λ i. record {
+    vertices = vertices-same r s ρ (returned-same I R) (returned-same I S) A i;
+    mesh = mesh-same r s ρ (returned-same I R) (returned-same I S) A i;
     vertexMap = vertexMaps i;
     triangleMap = triangleMaps i;
   }
     where
       A : Alike r s
-      A = alike r s (R .is) (S .is) ρ l (R .inRole) (S .inRole)
+      A = alike r s (reading-same I (R .is)) (reading-same I (S .is)) 0 ρ (R .inRole) (S .inRole)
 
       vertexMaps : r .vertexMap ≡ s .vertexMap
-      vertexMaps = match-same (R .is .matched .vertices) (S .is .matched .vertices) (vertex-same r s ρ R S A)
+      vertexMaps = match-same (R .is .matched .vertices) (S .is .matched .vertices)
+          (vertex-same r s ρ (returned-same I R) (returned-same I S) A)
 
       triangleMaps : r .triangleMap ≡ s .triangleMap
-      triangleMaps = match-same (R .is .matched .faces) (S .is .matched .faces) (triangle-same r s ρ R S A)
+      triangleMaps = match-same (R .is .matched .faces) (S .is .matched .faces)
+          (triangle-same r s ρ (returned-same I R) (returned-same I S) A)

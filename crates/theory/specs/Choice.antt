@@ -2,7 +2,7 @@
 use Prim.Native.Nat.{ℕ, zero, suc, _≤_, _<_}
 use mathlib.Core.List.{List, [], _∷_, _++_}
 use lib.ListN.{take, replicate}
-use Rattle.theory.specs.Limits.{mostLevels}
+use Rattle.theory.specs.Limits.{anyRole, mostLevels}
 use Rattle.theory.specs.Mesh.{Same}
 use Rattle.theory.specs.Reading.{Agreement, Reading, ReadingIn, Returned}
 
@@ -18,12 +18,12 @@ pub record NoRole (agree : Agreement) (N : ℕ) (T : List ℕ) : Type 0 where
 -- Undo one: "Asked 0 to 3: that role. Asked 4: the least role that has a reading."
 pub data Chosen (N : ℕ) (T : List ℕ) : ℕ → ℕ → Type 0 where
   named : {role : ℕ} → role ≤ 3 → ReadingIn Same N T role → Chosen N T role role
-  least : {role : ℕ} → LeastRole Same N T role → Chosen N T 4 role
+  least : {role : ℕ} → LeastRole Same N T role → Chosen N T anyRole role
 
 -- Refusal 11: "no reading in the role asked (asked 4: in any)".
 pub data NoneChosen (N : ℕ) (T : List ℕ) : ℕ → Type 0 where
   named : {role : ℕ} → role ≤ 3 → (ReadingIn Same N T role → ⊥) → NoneChosen N T role
-  least : NoRole Same N T → NoneChosen N T 4
+  least : NoRole Same N T → NoneChosen N T anyRole
 
 -- Undo several, with an allowance of levels: the levels undone, the roles taken, and the mesh that is left.
 -- "It stops when the asked number is reached or no reading exists"; otherwise "the least role is taken, and the

@@ -12,6 +12,7 @@ use Rattle.theory.specs.Splitting.{edges, split}
 use Rattle.theory.specs.Reading.{Matched, Reading}
 use Rattle.theory.specs.Refusals.{Room, Short}
 use Rattle.theory.specs.Calls.{Answer, OneAnswer, SeveralAnswer, Outputs, accepted, written, zeros, Splits}
+use Rattle.theory.specs.Frames.{FramesAnswer}
 
 -- "room enough lent": no lent buffer is shorter than needed.
 abbrev pub Enough : List Room → Type 0
@@ -32,8 +33,12 @@ SameApart N T M S = (f : List ℕ) × (g : List ℕ) × Matched Same f g N T M S
 abbrev pub foundMesh : Answer → List ℕ → List ℕ
 foundMesh answer out = take (3 * answer .triangles) out
 
--- The frames that a call wrote, as a caller finds them: "11 + 15F bytes", F being the answer's.
-abbrev pub foundBytes : Answer → List ℕ → List ℕ
+-- The corners that reading wrote, as a caller finds them: "3F", F being the answer's.
+abbrev pub foundCorners : FramesAnswer → List ℕ → List ℕ
+foundCorners answer out = take (3 * answer .triangles) out
+
+-- The frames that writing wrote, as a caller finds them: "11 + 15F bytes", F being the answer's.
+abbrev pub foundBytes : FramesAnswer → List ℕ → List ℕ
 foundBytes answer out = take (11 + 15 * answer .triangles) out
 
 -- The reading that undo one of (N, T) wrote, as a caller finds it: the mesh, and V and F entries of the two maps.

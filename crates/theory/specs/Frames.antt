@@ -2,15 +2,33 @@
 -- bytes.
 use Prim.Native.Nat.{ℕ, zero, suc, _+_, _-_, _*_, _/_, _%_}
 use mathlib.Core.Path.{_≡_}
-use mathlib.Core.Bool.{true, false, _&&_, _||_}
+use mathlib.Core.Bool.{true, false, _&&_}
 use mathlib.Core.Option.{Option, none, some}
 use mathlib.Core.List.{List, [], _∷_, _++_}
 use lib.Dec.{leb, ltb, eqb}
 use lib.ListN.{length}
-use Rattle.theory.specs.Limits.{mostTriangles, mostVertices}
+use Rattle.theory.specs.Limits.{mostTriangles}
 use Rattle.theory.specs.Mesh.{at, triangles}
-use Rattle.theory.specs.Refusals.{Rule, notThrees, tooLarge, tooShort, Passed, Refused}
-use Rattle.theory.specs.Calls.{Answer, refusal, accepted, written}
+use Rattle.theory.specs.Refusals.{Rule, Room, noPlace, notThrees, tooLarge, tooShort, Passed, Refused}
+use Rattle.theory.specs.Calls.{written}
+
+-- ---- answers
+
+-- "An answer holds the refusal number (0 when accepted), the place, the resulting V and F (for frames, those read or
+-- written)".
+pub record FramesAnswer : Type 0 where
+  pub refusal : ℕ
+  pub place : ℕ
+  pub vertices : ℕ
+  pub triangles : ℕ
+
+-- "Other numbers in a refusal are 0."
+abbrev pub framesRefusal : ℕ → ℕ → FramesAnswer
+framesRefusal number place = record { refusal = number; place = place; vertices = 0; triangles = 0 }
+
+-- An acceptance: 0, place 0, and the V and F read or written.
+abbrev pub framesAccepted : ℕ → ℕ → FramesAnswer
+framesAccepted N F = record { refusal = 0; place = 0; vertices = N; triangles = F }
 
 -- ---- writing
 
@@ -109,7 +127,7 @@ pub data Corners : Type 0 where
   corners : List ℕ → Corners
   wrongLine : ℕ → Corners
 
--- "Then exactly F lines": n more triangle lines from the given line on and nothing after them, behind the corners so
+-- "Then exactly F lines": n more triangle lines from the given line on and nothing after them, after the corners so
 -- far.
 -- "If lines run out, the place is the first missing one; bytes after the last frame are refused at line F + 1."
 unfoldable pub takeTriangles : ℕ → ℕ → List ℕ → List ℕ → Corners
@@ -121,60 +139,74 @@ takeTriangles (suc n) at-line so-far bytes =
       | some taken ↦ takeTriangles n (suc at-line) (so-far ++ taken .value) (taken .rest)
     ]
 
--- "A frame is either read whole or refused with its line number."
-pub data Frames : Type 0 where
-  mesh : ℕ → List ℕ → Frames
-  refused : ℕ → ℕ → Frames
+-- What the first line says, and the bytes after it. Where it is not as required all of it is 0, and of the rows below
+-- only 12 is given.
+pub record FirstLine : Type 0 where
+  pub vertices : ℕ
+  pub triangles : ℕ
+  pub rest : List ℕ
 
--- A mesh with its V where all lines are as required, and refusal 12 at the first line that is not.
-unfoldable pub meshOf : ℕ → Corners → Frames
-meshOf N (corners T) = mesh N T
-meshOf N (wrongLine place) = refused 12 place
-
--- "Reading gives 12 for the first line, then 4, 5, then 12 for later lines", with room for so many entries: "reading
--- 3F".
-unfoldable pub readFrames : ℕ → List ℕ → Frames
-readFrames room bytes =
+-- "First line: 4D, V in four digits, F in four digits."
+unfoldable pub firstLine : List ℕ → FirstLine
+firstLine bytes =
     elim (takeLine 0x4D 2 bytes) [
-      | none ↦ refused 12 0
-      | some first ↦
-          let N : ℕ = at (first .value) 0 in
-          let F : ℕ = at (first .value) 1 in
-          elim (ltb mostTriangles F || ltb mostVertices N) [
-            | true ↦ refused 4 0
-            | false ↦ elim (ltb room (3 * F)) [
-              | true ↦ refused 5 0
-              | false ↦ meshOf N (takeTriangles F 1 [] (first .rest))
-            ]
-          ]
+      | none ↦ record { vertices = 0; triangles = 0; rest = [] }
+      | some taken ↦ record { vertices = at (taken .value) 0; triangles = at (taken .value) 1; rest = taken .rest }
     ]
 
--- ---- the two calls
+-- The lines after the first: "exactly F lines", from line 1 on.
+abbrev pub laterLines : List ℕ → Corners
+laterLines bytes = takeTriangles (firstLine bytes .triangles) 1 [] (firstLine bytes .rest)
 
--- "for frames, those read or written".
-unfoldable pub readAnswer : Frames → Answer
-readAnswer (mesh N T) = accepted N (triangles T)
-readAnswer (refused number place) = refusal number place
+-- The lines say the mesh (N, T), where none of the rows below is given: "A frame is either read whole or refused".
+pub record LinesSay (bytes : List ℕ) (N : ℕ) (T : List ℕ) : Type 0 where
+  pub first : firstLine bytes .vertices ≡ N
+  pub later : laterLines bytes ≡ corners T
 
--- The output buffer after reading: the corners in front, or untouched by a refusal.
-unfoldable pub readOutput : Frames → List ℕ → List ℕ
-readOutput (mesh N T) out = written T out
-readOutput (refused number place) out = out
+-- ---- the call read frames
+
+-- 12: "a frame not as required", the first line, which is line 0.
+abbrev pub firstLineWrong : List ℕ → Rule
+firstLineWrong bytes = record { number = 12; given = noPlace (takeLine 0x4D 2 bytes ≡ none) }
+
+-- 12: "a frame not as required", one of the later lines, at the "least such line".
+abbrev pub laterLineWrong : List ℕ → Rule
+laterLineWrong bytes = record { number = 12; given = λ place. laterLines bytes ≡ wrongLine place }
+
+-- "reading 3F", into so many entries.
+abbrev pub readRooms : ℕ → ℕ → List Room
+readRooms F out = record { lent = out; needed = 3 * F } ∷ []
+
+-- "Reading gives 12 for the first line, then 4, 5, then 12 for later lines".
+abbrev pub readRules : ℕ → List ℕ → List Rule
+readRules out bytes =
+    firstLineWrong bytes
+    ∷ tooLarge mostTriangles (firstLine bytes .vertices) (firstLine bytes .triangles)
+    ∷ tooShort (readRooms (firstLine bytes .triangles) out)
+    ∷ laterLineWrong bytes
+    ∷ []
 
 -- The call read frames.
-pub record ReadsFrames (bytes out : List ℕ) (answer : Answer) (out′ : List ℕ) : Type 0 where
-  pub answers : answer ≡ readAnswer (readFrames (length out) bytes)
-  pub leaves : out′ ≡ readOutput (readFrames (length out) bytes) out
+pub data ReadsFrames (bytes out : List ℕ) (answer : FramesAnswer) (out′ : List ℕ) : Type 0 where
+  refuses : (number place : ℕ) → Refused (readRules (length out) bytes) number place
+      → answer ≡ framesRefusal number place → out′ ≡ out → ReadsFrames bytes out answer out′
+  accepts : (N : ℕ) (T : List ℕ) → Passed (readRules (length out) bytes) → LinesSay bytes N T
+      → answer ≡ framesAccepted N (triangles T) → out′ ≡ written T out → ReadsFrames bytes out answer out′
 
--- "Writing frames gives 2, 4, 5 and allows F = 0"; "writing 11 + 15F bytes".
-abbrev pub writeRules : ℕ → List ℕ → List ℕ → List Rule
-writeRules N T out =
-    notThrees T ∷ tooLarge mostTriangles N (triangles T)
-    ∷ tooShort (record { lent = length out; needed = 11 + 15 * triangles T } ∷ []) ∷ []
+-- ---- the call write frames
+
+-- "writing 11 + 15F bytes", into so many.
+abbrev pub writeRooms : ℕ → ℕ → List Room
+writeRooms F out = record { lent = out; needed = 11 + 15 * F } ∷ []
+
+-- "Writing frames gives 2, 4, 5 and allows F = 0"; all are judged from numbers alone.
+abbrev pub writeRules : ℕ → ℕ → ℕ → List Rule
+writeRules N entries out =
+    notThrees entries ∷ tooLarge mostTriangles N (entries / 3) ∷ tooShort (writeRooms (entries / 3) out) ∷ []
 
 -- The call write frames.
-pub data WritesFrames (N : ℕ) (T out : List ℕ) (answer : Answer) (out′ : List ℕ) : Type 0 where
-  refuses : (number place : ℕ) → Refused (writeRules N T out) number place
-      → answer ≡ refusal number place → out′ ≡ out → WritesFrames N T out answer out′
-  accepts : Passed (writeRules N T out)
-      → answer ≡ accepted N (triangles T) → out′ ≡ written (frames N T) out → WritesFrames N T out answer out′
+pub data WritesFrames (N : ℕ) (T out : List ℕ) (answer : FramesAnswer) (out′ : List ℕ) : Type 0 where
+  refuses : (number place : ℕ) → Refused (writeRules N (length T) (length out)) number place
+      → answer ≡ framesRefusal number place → out′ ≡ out → WritesFrames N T out answer out′
+  accepts : Passed (writeRules N (length T) (length out))
+      → answer ≡ framesAccepted N (triangles T) → out′ ≡ written (frames N T) out → WritesFrames N T out answer out′

@@ -7,6 +7,6 @@ pub mod Reading
 pub mod Choice
 pub mod Refusals
 pub mod Calls
-pub mod Demands
 pub mod Frames
 pub mod Program
+pub mod Demands

@@ -13,6 +13,10 @@ mostSplitTriangles = 4096
 abbrev pub mostVertices : ℕ
 mostVertices = 32767
 
+-- undo one: "Asked 4: the least role that has a reading"
+abbrev pub anyRole : ℕ
+anyRole = 4
+
 -- "Asked at most 0 to 7 levels", "kept in seven places of the answer"
 abbrev pub mostLevels : ℕ
 mostLevels = 7

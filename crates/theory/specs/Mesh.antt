@@ -55,6 +55,12 @@ pub record Singular (T : List ℕ) (u v : ℕ) : Type 0 where
   pub hasTwo : HasEdge T two u v
   pub hasThree : HasEdge T three u v
 
+-- "An edge is boundary, regular or singular": it is one of the three, and neither of the other two.
+pub data EdgeKind (T : List ℕ) (u v : ℕ) : Type 0 where
+  boundary : Boundary T u v → (Regular T u v → ⊥) → (Singular T u v → ⊥) → EdgeKind T u v
+  regular : Regular T u v → (Boundary T u v → ⊥) → (Singular T u v → ⊥) → EdgeKind T u v
+  singular : Singular T u v → (Boundary T u v → ⊥) → (Regular T u v → ⊥) → EdgeKind T u v
+
 -- "Two triangles are the same when they have the same three vertices; winding is ignored": triangle k of T and l of S.
 pub record Same (T : List ℕ) (k : ℕ) (S : List ℕ) (l : ℕ) : Type 0 where
   pub there : (v : ℕ) → On T k v → On S l v

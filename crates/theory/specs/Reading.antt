@@ -3,11 +3,11 @@
 -- vertices" (`Same`).
 use Prim.Native.Nat.{ℕ, suc, _+_, _*_, _/_, _%_, _≤_, _<_}
 use mathlib.Core.Path.{_≡_}
-use mathlib.Core.Logic.{_≢_}
+use mathlib.Core.Logic.{_≢_, _⊎_}
 use mathlib.Core.List.{List, map}
 use lib.ListN.{length}
-use Rattle.theory.specs.Mesh.{at, triangles, On, Proper}
-use Rattle.theory.specs.Splitting.{edges, split}
+use Rattle.theory.specs.Mesh.{at, triangles, On, HasEdge, Proper}
+use Rattle.theory.specs.Splitting.{lesser, greater, edges, edgeNo, split}
 
 -- What may be asked of triangle k of one list and triangle l of another.
 abbrev pub Agreement : Type 1
@@ -54,6 +54,26 @@ pub record Kept (r : Reading) (v : ℕ) : Type 0 where
 pub record Between (r : Reading) (v : ℕ) : Type 0 where
   pub inside : v < length (r .vertexMap)
   pub new : r .vertices ≤ at (r .vertexMap) v
+
+-- "Each coarse edge gets one new vertex": the input vertex v is matched to that of the coarse half-edge h.
+pub record NewOn (r : Reading) (v h : ℕ) : Type 0 where
+  pub inside : h < length (r .mesh)
+  pub number : edgeNo (r .vertices) (r .mesh) h ≡ at (r .vertexMap) v
+
+-- "the others stand between two kept ones": v between u and w, the ends of the coarse edge whose new vertex it is.
+pub record BetweenTwo (T : List ℕ) (r : Reading) (v u w : ℕ) : Type 0 where
+  pub oneKept : Kept r u
+  pub otherKept : Kept r w
+  pub differ : u ≢ w
+  -- v is the new vertex of some coarse half-edge; the ends of each such are the numbers of u and w, u's the lesser
+  pub half : ℕ
+  pub new : NewOn r v half
+  pub lesserEnd : (h : ℕ) → NewOn r v h → lesser (r .mesh) h ≡ at (r .vertexMap) u
+  pub greaterEnd : (h : ℕ) → NewOn r v h → greater (r .mesh) h ≡ at (r .vertexMap) w
+  -- in the input an edge joins v to each of them, and no other kept vertex is in a triangle with v
+  pub oneEdge : (k : ℕ) × HasEdge T k u v
+  pub otherEdge : (k : ℕ) × HasEdge T k w v
+  pub others : (k x : ℕ) → On T k v → On T k x → Kept r x → (x ≡ u) ⊎ (x ≡ w)
 
 -- "Centres are the triangles matched to some 4j."
 pub record Centre (r : Reading) (k : ℕ) : Type 0 where

@@ -1,9 +1,8 @@
 -- Document 01, "Refusals by number": the table, row by row, and which row a call gives.
-use Prim.Native.Nat.{ℕ, _%_, _≤_, _<_}
+use Prim.Native.Nat.{ℕ, _/_, _%_, _≤_, _<_}
 use mathlib.Core.Path.{_≡_}
 use mathlib.Core.Logic.{_≢_, _⊎_}
 use mathlib.Core.List.{List, [], _∷_}
-use lib.ListN.{length}
 use Rattle.theory.specs.Limits.{mostVertices, mostBytes}
 use Rattle.theory.specs.Mesh.{triangles, On, Same, Reach}
 use Rattle.theory.specs.Choice.{NoneChosen}
@@ -35,13 +34,13 @@ Short (room ∷ rooms) = (room .lent < room .needed) ⊎ Short rooms
 abbrev pub askedTooMuch : ℕ → ℕ → Rule
 askedTooMuch most asked = record { number = 1; given = noPlace (most < asked) }
 
--- 2: "list length not a multiple of 3".
-abbrev pub notThrees : List ℕ → Rule
-notThrees T = record { number = 2; given = noPlace (length T % 3 ≢ 0) }
+-- 2: "list length not a multiple of 3", of so many entries.
+abbrev pub notThrees : ℕ → Rule
+notThrees entries = record { number = 2; given = noPlace (entries % 3 ≢ 0) }
 
--- 3: "no triangle".
-abbrev pub noTriangle : List ℕ → Rule
-noTriangle T = record { number = 3; given = noPlace (triangles T ≡ 0) }
+-- 3: "no triangle", of F.
+abbrev pub noTriangle : ℕ → Rule
+noTriangle F = record { number = 3; given = noPlace (F ≡ 0) }
 
 -- 4: "F above 16,384 (split: above 4,096) or V above 32,767".
 abbrev pub tooLarge : ℕ → ℕ → ℕ → Rule
@@ -105,9 +104,15 @@ notConnected T = record { number = 10; given = NotConnected T }
 abbrev pub noReading : ℕ → List ℕ → ℕ → Rule
 noReading N T asked = record { number = 11; given = noPlace (NoneChosen N T asked) }
 
+-- 12, "a frame not as required", is a row of `Frames`, where lines are.
+
 -- 13: "program input above 16,384 bytes", of so many bytes.
 abbrev pub inputTooLong : ℕ → Rule
 inputTooLong bytes = record { number = 13; given = noPlace (mostBytes < bytes) }
+
+-- The rows that judge the length of an index list and its V, 2 to 4, in their order; F is a third of the entries.
+abbrev pub sizeRules : ℕ → ℕ → ℕ → List Rule
+sizeRules most N entries = notThrees entries ∷ noTriangle (entries / 3) ∷ tooLarge most N (entries / 3) ∷ []
 
 -- The rows that judge the mesh itself, 6 to 10, in their order.
 abbrev pub meshRules : ℕ → List ℕ → List Rule

@@ -1,166 +1,176 @@
 // Answers a file of cases by the public calls. Standard input holds commands, which are numbers, with what they need
-// behind them: 1, V, n and n entries make the present mesh; 2 and three entries put a triangle behind it; 3 splits it;
-// 4 and 5, with what is asked, undo one split and several; 6 does as 5. Where 3 and 6 are accepted, the result becomes
-// the present mesh. Each call is answered by a line of numbers and, where it is accepted, by a line for each list.
-// Where the text is not so, the last line is `wrong`.
-mod calls;
+// after them (reference/README.md, "Vectors"): 1 and 2 make the present mesh, and 7 says how buffers are lent to the
+// calls; 3 splits; 4, 5 and 6 undo; 8 and 9 read and write frames. Each call is answered by a line of numbers and by
+// what it wrote. Where the text is not so, the last line is `wrong`.
+mod buffers;
 mod numbers;
+mod present;
 mod print;
-mod trying;
+mod try_frames;
+mod try_split;
+mod try_undo;
 
 use io::read_full;
 use io::write_all;
 use libc::STDIN_FILENO;
+use numbers::ANY;
 use numbers::Found;
 use numbers::next;
-use numbers::skip;
-use trying::State;
-use trying::try_one;
-use trying::try_several;
-use trying::try_split;
+use present::BYTES;
+use present::ENTRIES;
+use present::Lent;
+use present::Present;
+use try_frames::try_read;
+use try_frames::try_write;
+use try_split::try_split;
+use try_undo::try_one;
+use try_undo::try_several;
 
-// The bytes that a file of cases has at most.
-const BYTES: usize = 262144;
-
-// The entries that the present mesh has at most: a triangle more than are allowed.
-const ENTRIES: usize = 49155;
+// The most entries that buffers have to spare.
+const SPARE: u64 = 8;
 
 fn main() {
     let mut text = [0u8; BYTES + 1];
     let count = read_full(STDIN_FILENO, &mut text);
     if count > BYTES {
-        wrong();
+        write_all(1, b"wrong\n");
         return;
     }
     obey_all(&text[..count]);
 }
 
 // Obeys the commands of the text one after the other. Each has at least one byte, so that there are no more turns than
-// bytes; the turns behind the last command find nothing.
+// bytes; the turns after the last command find nothing.
 fn obey_all(text: &[u8]) {
     let mut list: [u16; ENTRIES] = [0; ENTRIES];
-    let mut state = State {
+    let mut present = Present {
         vertices: 0,
         entries: 0,
+        lent: Lent {
+            spare: 0,
+            short: 0,
+            fewer: 0,
+        },
         at: 0,
     };
     let mut turns = 0;
     while turns < text.len() {
-        state = obey_next(text, state, &mut list);
+        present = obey_next(text, present, &mut list);
         turns += 1;
     }
 }
 
-// Obeys the command that stands next, if any. The triangles of the present mesh stand in `list`.
-fn obey_next(text: &[u8], state: State, list: &mut [u16]) -> State {
-    let Found::Number { value, at } = next(text, state.at) else {
-        return finish(text, state.at);
-    };
-    obey(value, text, state.moved(at), list)
+// Obeys the command that stands next, if any. The entries of the present mesh stand in `list`.
+fn obey_next(text: &[u8], present: Present, list: &mut [u16]) -> Present {
+    match next(text, present.at, ANY) {
+        Found::Number { value, at } => obey(value, text, present.moved(at), list),
+        Found::End => present.stopped(),
+        Found::Wrong => present.wrong(),
+    }
 }
 
 // Obeys the command of this number.
-fn obey(command: u16, text: &[u8], state: State, list: &mut [u16]) -> State {
-    if command == 1 {
-        return take_mesh(text, state.at, list);
+fn obey(command: u64, text: &[u8], present: Present, list: &mut [u16]) -> Present {
+    match command {
+        2 => take_entries(text, present.entries, 3, present, list),
+        3 => try_split(present, list),
+        9 => try_write(present, list),
+        _ => obey_more(command, text, present, list),
     }
-    if command == 2 {
-        return take_triangle(text, state, list);
-    }
-    if command == 3 {
-        return try_split(state, list);
-    }
-    let Found::Number { value: asked, at } = next(text, state.at) else {
-        return wrong();
-    };
-    obey_asked(command, asked as u64, state.moved(at), list)
 }
 
-// Obeys a command that asks for a role or a number of levels.
-fn obey_asked(command: u16, asked: u64, state: State, list: &mut [u16]) -> State {
-    if command == 4 {
-        return try_one(state, list, asked);
+// Obeys a command that has a number after it, which is taken.
+fn obey_more(command: u64, text: &[u8], present: Present, list: &mut [u16]) -> Present {
+    match next(text, present.at, ANY) {
+        Found::Number { value, at } => obey_with(command, value, text, present.moved(at), list),
+        _ => present.wrong(),
     }
-    if command == 5 {
-        return try_several(state, list, asked, false);
-    }
-    if command == 6 {
-        return try_several(state, list, asked, true);
-    }
-    wrong()
 }
 
-// Takes the vertices, the number of entries and the entries of a mesh.
-fn take_mesh(text: &[u8], from: usize, list: &mut [u16]) -> State {
-    let Found::Number {
-        value: vertices,
-        at,
-    } = next(text, from)
-    else {
-        return wrong();
+// Obeys a command that has this number after it.
+fn obey_with(command: u64, value: u64, text: &[u8], present: Present, list: &mut [u16]) -> Present {
+    match command {
+        1 => take_mesh(value, text, present, list),
+        4 => try_one(value, present, list),
+        5 => try_several(value, false, present, list),
+        6 => try_several(value, true, present, list),
+        7 => take_lent(value, text, present),
+        8 => try_read(value, text, present, list),
+        _ => present.wrong(),
+    }
+}
+
+// Takes the number of entries and the entries of a mesh of so many vertices.
+fn take_mesh(vertices: u64, text: &[u8], present: Present, list: &mut [u16]) -> Present {
+    let Found::Number { value, at } = next(text, present.at, ANY) else {
+        return present.wrong();
     };
-    let Found::Number { value: entries, at } = next(text, at) else {
-        return wrong();
-    };
-    let mesh = State {
-        vertices: vertices as u64,
-        entries: entries as usize,
+    let lent = present.lent;
+    let mesh = Present {
+        vertices,
+        entries: 0,
+        lent,
         at,
     };
-    take_entries(text, 0, mesh, list)
+    take_entries(text, 0, value, mesh, list)
 }
 
-// Takes three entries more for the present mesh.
-fn take_triangle(text: &[u8], state: State, list: &mut [u16]) -> State {
-    if state.entries >= ENTRIES {
-        return wrong();
-    }
-    let mesh = State {
-        vertices: state.vertices,
-        entries: state.entries + 3,
-        at: state.at,
-    };
-    take_entries(text, state.entries, mesh, list)
-}
-
-// Takes the entries of `mesh` from the entry `first` on, if there is room for them.
-fn take_entries(text: &[u8], first: usize, mesh: State, list: &mut [u16]) -> State {
-    let end = mesh.entries;
+// Takes `count` entries more, after the first `from`, if there is room for them.
+fn take_entries(
+    text: &[u8],
+    from: usize,
+    count: u64,
+    present: Present,
+    list: &mut [u16],
+) -> Present {
+    let end = end_of(from, count);
     if end > list.len() {
-        return wrong();
+        return present.wrong();
     }
-    let mut i = first;
-    let mut behind = mesh.at;
+    let mut i = from;
+    let mut after = present.at;
     while i < end {
-        let Found::Number { value, at } = next(text, behind) else {
-            return wrong();
+        let Found::Number { value, at } = next(text, after, 65535) else {
+            return present.wrong();
         };
-        list[i] = value;
-        behind = at;
+        list[i] = (value % 65536) as u16;
+        after = at;
         i += 1;
     }
-    mesh.moved(behind)
+    present.with_entries(end, after)
 }
 
-// Ends the answers where no number stands next: well, if nothing at all does.
-fn finish(text: &[u8], at: usize) -> State {
-    if skip(text, at) < text.len() {
-        return wrong();
+// The index after `count` entries from index `from` on, or one that is too large.
+fn end_of(from: usize, count: u64) -> usize {
+    if from > ENTRIES {
+        return from;
     }
-    stopped()
+    if count > ENTRIES as u64 {
+        return ENTRIES + 1;
+    }
+    from + count as usize
 }
 
-// Ends the answers by saying that the text is not as it has to be.
-fn wrong() -> State {
-    write_all(1, b"wrong\n");
-    stopped()
-}
-
-// Behind every text, where no command stands.
-fn stopped() -> State {
-    State {
-        vertices: 0,
-        entries: 0,
-        at: BYTES,
+// Takes how buffers are lent from here on: with `spare` entries more than are needed, but the one of a number with so
+// many fewer.
+fn take_lent(spare: u64, text: &[u8], present: Present) -> Present {
+    if spare > SPARE {
+        return present.wrong();
+    }
+    let Found::Number { value: short, at } = next(text, present.at, ANY) else {
+        return present.wrong();
+    };
+    let Found::Number { value: fewer, at } = next(text, at, ANY) else {
+        return present.wrong();
+    };
+    Present {
+        vertices: present.vertices,
+        entries: present.entries,
+        lent: Lent {
+            spare: spare as usize,
+            short,
+            fewer,
+        },
+        at,
     }
 }

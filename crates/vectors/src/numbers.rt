@@ -1,34 +1,36 @@
-// Reads the numbers of a text of cases: one to five decimal digits each, blanks and line feeds between them, and
-// comments on lines of their own, which begin with `#`. Takes any bytes.
+// Reads the numbers of a text of cases: decimal digits, blanks and line feeds between the numbers, and comments, which
+// go from a `#` to the end of its line. Takes any bytes.
 ghost use Prim.Native.Nat.{_≤_};
 
-// What stands next in a text: a number, with the index behind it, or none.
+// What stands next in a text: a number, with the index after it, nothing more, or something else.
 pub enum Found {
-    Number { value: u16, at: usize },
-    Nothing,
+    Number { value: u64, at: usize },
+    End,
+    Wrong,
 }
 
-// The largest number.
-const MOST: u64 = 65535;
+// The largest number that another digit may be put after.
+const TENTH: u64 = 1844674407370955160;
 
-// The most digits of a number.
-const DIGITS: usize = 5;
+// No number is larger.
+pub const ANY: u64 = 0xFFFFFFFFFFFFFFFF;
 
-// The number that stands at index `from` or behind, with gaps and comments before it.
-pub fn next(text: &[u8], from: usize) -> Found {
+// The number that stands at index `from` or after it, with gaps and comments before it. It is wrong above `most`.
+pub fn next(text: &[u8], from: usize, most: u64) -> Found {
     let start = skip(text, from);
     if start < text.len() {
-        return number(text, start);
+        return number(text, start, most);
     }
-    Found::Nothing
+    Found::End
 }
 
-// The index of the first byte at `from` or behind that is no blank, no line feed and in no comment, or the text's end.
-pub fn skip(text: &[u8], from: usize) -> usize {
+// The index of the first byte at `from` or after it that is no blank, no line feed and in no comment, or the text's
+// end.
+fn skip(text: &[u8], from: usize) -> usize {
     let mut comment = false;
     let mut at = from;
     while at < text.len() {
-        comment = is_comment(text, at, comment);
+        comment = is_comment(text[at], comment);
         if !passed(text[at], comment) {
             return at;
         }
@@ -37,28 +39,15 @@ pub fn skip(text: &[u8], from: usize) -> usize {
     at
 }
 
-// Whether the byte at index `at` is in a comment, where `before` says so of the one before it.
-fn is_comment(text: &[u8], at: usize, before: bool) -> bool {
-    if is_byte(text, at, b'\n') {
+// Whether a byte is in a comment, where `before` says so of the one before it.
+fn is_comment(byte: u8, before: bool) -> bool {
+    if byte == b'\n' {
         return false;
     }
-    if before {
+    if byte == b'#' {
         return true;
     }
-    if at > 0 {
-        if !is_byte(text, at - 1, b'\n') {
-            return false;
-        }
-    }
-    is_byte(text, at, b'#')
-}
-
-// Whether `byte` stands at index `at`.
-fn is_byte(text: &[u8], at: usize, byte: u8) -> bool {
-    if at < text.len() {
-        return text[at] == byte;
-    }
-    false
+    before
 }
 
 // Whether a byte is passed over.
@@ -66,30 +55,28 @@ fn passed(byte: u8, comment: bool) -> bool {
     if comment {
         return true;
     }
-    is_gap(byte)
-}
-
-// Whether a byte may stand between two numbers.
-fn is_gap(byte: u8) -> bool {
     if byte == b' ' {
         return true;
     }
     byte == b'\n'
 }
 
-// The number whose digits begin at index `start`.
-fn number(text: &[u8], start: usize) -> Found {
+// The number whose digits begin at index `start`, if there are any and it is at most `most`.
+fn number(text: &[u8], start: usize, most: u64) -> Found {
     let mut value = 0;
     let mut at = start;
     while at < text.len() {
         let digit = digit_of(text[at]);
         if digit > 9 {
-            return judged(text, start, at, value);
+            return judged(value, most, start, at);
         }
-        value = with_digit(value, digit);
+        if value > TENTH {
+            return Found::Wrong;
+        }
+        value = 10 * value + digit;
         at += 1;
     }
-    judged(text, start, at, value)
+    judged(value, most, start, at)
 }
 
 // The value of a digit, or 10 where the byte is none.
@@ -103,37 +90,13 @@ fn digit_of(byte: u8) -> u64 {
     (byte - b'0') as u64
 }
 
-// The number with a digit put behind it, or one that is too large.
-fn with_digit(value: u64, digit: u64) -> u64
-    requires { ⌜ digit ≤ 9 ⌝ }
-{
-    if value > MOST {
-        return value;
+// The number of this value, if its digits, from index `start` to index `at`, are not none and it is at most `most`.
+fn judged(value: u64, most: u64, start: usize, at: usize) -> Found {
+    if start == at {
+        return Found::Wrong;
     }
-    10 * value + digit
-}
-
-// The number of this value, if its digits, from `start` to `at`, are neither none nor too many, it is not too large,
-// and a gap or the text's end follows.
-fn judged(text: &[u8], start: usize, at: usize, value: u64) -> Found
-    requires { ⌜ start ≤ at ⌝ }
-{
-    if at == start {
-        return Found::Nothing;
+    if value > most {
+        return Found::Wrong;
     }
-    if at - start > DIGITS {
-        return Found::Nothing;
-    }
-    if value > MOST {
-        return Found::Nothing;
-    }
-    if at < text.len() {
-        if !is_gap(text[at]) {
-            return Found::Nothing;
-        }
-    }
-    Found::Number {
-        value: value as u16,
-        at,
-    }
+    Found::Number { value, at }
 }

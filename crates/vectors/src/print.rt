@@ -1,47 +1,59 @@
-// Prints lists, each on one line.
+// Prints answers and lists.
+use crate::buffers::LONG;
+use crate::buffers::entry;
+use answers::answers::Answer;
 use io::print_decimal;
 use io::write_all;
-use trial::entry;
-use trial::print_line;
-use trial::print_rows;
 ghost use Prim.Native.Nat.{_<_};
 
 // The most entries that are printed one by one.
 const PRINTED: usize = 96;
 
-// Prints how many entries the list has, a colon, and the entries, or where they are many the first three, the last
-// three and a sum of all.
-pub fn print_list(list: &[u16]) {
-    let count = list.len();
-    print_decimal(1, count as u64);
-    if count == 0 {
-        write_all(1, b":\n");
-        return;
-    }
-    write_all(1, b": ");
-    if count <= PRINTED {
-        print_rows(list, count, count);
-        return;
-    }
-    print_line(
-        &[
-            entry(list, 0),
-            entry(list, 1),
-            entry(list, 2),
-            entry(list, count - 3),
-            entry(list, count - 2),
-            entry(list, count - 1),
-            mixed_sum(list),
-        ],
-    );
+// Prints a number with a blank before it.
+pub fn print_number(number: u64) {
+    write_all(1, b" ");
+    print_decimal(1, number);
 }
 
-// A sum of all entries, in which each place counts differently.
-fn mixed_sum(list: &[u16]) -> u64 {
+// Prints the numbers that every answer has.
+pub fn print_answer(answer: Answer) {
+    print_number(answer.refusal);
+    print_number(answer.place);
+    print_number(answer.vertices);
+    print_number(answer.triangles);
+}
+
+// Prints the first `count` entries of a list on one line: how many there are, a colon, and the entries, or where they
+// are many the first three, the last three and a sum of all.
+pub fn print_list(list: &[u16; LONG], count: usize) {
+    print_decimal(1, count as u64);
+    write_all(1, b":");
+    if count <= PRINTED {
+        print_entries(list, 0, count);
+        write_all(1, b"\n");
+        return;
+    }
+    print_entries(list, 0, 3);
+    print_entries(list, count - 3, count);
+    print_number(mixed_sum(list, count));
+    write_all(1, b"\n");
+}
+
+// Prints the entries between two indices.
+fn print_entries(list: &[u16; LONG], from: usize, to: usize) {
+    let mut i = from;
+    while i < to {
+        print_number(entry(list, i) as u64);
+        i += 1;
+    }
+}
+
+// A sum of the first `count` entries, in which each place counts differently.
+fn mixed_sum(list: &[u16; LONG], count: usize) -> u64 {
     let mut sum = 0;
     let mut i = 0;
-    while i < list.len() {
-        sum = with_entry(sum, list[i]);
+    while i < count {
+        sum = with_entry(sum, entry(list, i));
         i += 1;
     }
     sum

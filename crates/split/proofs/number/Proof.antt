@@ -6,7 +6,7 @@ use mathlib.Core.List.{List}
 use lib.ListN.{set}
 use borrow.Author.Needs.{needs}
 use Rattle.theory.specs.Mesh.{at}
-use Rattle.rings.specs.Ring.{Chosen, met, new}
+use Rattle.mesh_rings.specs.Ring.{Chosen, met, new}
 use Rattle.split.specs.Numbers.{OneNumbered, next, same}
 use Rattle.split.proofs.number.Statement.{statement}
 use Rattle.split.proofs.number.Tie as tie

@@ -13,7 +13,7 @@ use Rattle.theory.specs.Splitting.{firstOn, isFirst, edgeNo}
 use Rattle.theory.proofs.Counting.{count-le}
 use Rattle.theory.proofs.Splitting.{firstOn-le}
 use Rattle.lists.proofs.Lists.{by-eq, at-set}
-use Rattle.rings.specs.Ring.{FollowsBy, RingBy}
+use Rattle.mesh_rings.specs.Ring.{FollowsBy, RingBy}
 use Rattle.split.specs.Numbers.{NumberLent, Numbered, UnnumberedLent, OneLent, OneNumbered, next, same}
 use Rattle.split.proofs.Numbering.{edgeNo-first, edgeNo-own, edgeNo-given, firstOn-own, counted, uncounted}
 use Rattle.split.proofs.Numbering.{edges-all, follows-next}

@@ -1,4 +1,4 @@
--- `split::write_four` meets its contract: the four triangles, one behind the other, are a run of twelve entries.
+-- `split::write_four` meets its contract: the four triangles, one after the other, are a run of twelve entries.
 use native.Mathlib.Omega.{arith}
 use Prim.Native.Nat.{ℕ, _+_, _*_}
 use mathlib.Core.Path.{_≡_, _∙_, refl}
@@ -12,7 +12,7 @@ use Rattle.lists.proofs.Stores.{sets-append}
 use Rattle.split.proofs.write_four.Statement.{statement}
 use Rattle.split.proofs.write_four.Tie as tie
 
--- four runs of three entries, one behind the other, are one run
+-- four runs of three entries, one after the other, are one run
 four-runs : (out : List ℕ) (k : ℕ) (ws xs ys zs : List ℕ) → length ws ≡ 3 → length xs ≡ 3 → length ys ≡ 3
     → sets (sets (sets (sets out (3 * (4 * k)) ws) (3 * (4 * k + 1)) xs) (3 * (4 * k + 2)) ys) (3 * (4 * k + 3)) zs
     ≡ sets out (12 * k) (ws ++ xs ++ ys ++ zs)
@@ -23,7 +23,7 @@ four-runs out k ws xs ys zs a b c =
     let from₃ : 3 * (4 * k + 3) ≡ 12 * k + length (ws ++ xs ++ ys) = simp length-append (omega arith) in
     rw (from₀, from₁, sets-append out, from₂, sets-append out, from₃, sets-append out)
 
--- the four triangles, each behind the one before
+-- the four triangles, each after the one before
 stored : (T numbers out : List ℕ) (k : ℕ) {out₁ out₂ out₃ out₄ : List ℕ}
     → out₁ ≡ sets out (3 * (4 * k)) (at numbers (3 * k) ∷ at numbers (3 * k + 1) ∷ at numbers (3 * k + 2) ∷ [])
     → out₂ ≡ sets out₁ (3 * (4 * k + 1)) (at T (3 * k) ∷ at numbers (3 * k) ∷ at numbers (3 * k + 2) ∷ [])

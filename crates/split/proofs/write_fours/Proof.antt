@@ -37,7 +37,7 @@ unfolding fourOf four
 fourOf-four N T k t l =
     rw (t .entry (3 * k) (omega arith), t .entry (3 * k + 1) (omega arith), t .entry (3 * k + 2) (omega arith))
 
--- one triangle more gives the twelve entries behind those before
+-- one triangle more gives the twelve entries after those before
 fours-more : (N : ℕ) (T ys : List ℕ) (k : ℕ) → length (fours N T k) ≡ 12 * k → 12 * k + 12 ≤ length ys
     → sets (fours N T k ++ drop (12 * k) ys) (12 * k) (four N T k) ≡ fours N T (k + 1) ++ drop (12 * (k + 1)) ys
 unfolding fours four

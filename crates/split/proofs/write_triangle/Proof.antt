@@ -1,4 +1,4 @@
--- `split::write_triangle` meets its contract: three stores one behind the other are a run.
+-- `split::write_triangle` meets its contract: three stores one after the other are a run.
 use native.Mathlib.Omega.{arith}
 use native.Mathlib.Numerals.{add-one, add-two}
 use lib.ListN.{length-set}

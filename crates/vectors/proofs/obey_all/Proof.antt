@@ -9,10 +9,10 @@ use Rattle.vectors.proofs.obey_all.Statement.{statement}
 use Rattle.vectors.proofs.obey_all.Tie as tie
 
 abbrev Inv-loop : tie.InvT-loop
-Inv-loop text list₀ state₀ turns₀ list state turns = (turns ≤ length text) × (length list ≡ 49155)
+Inv-loop text list₀ present₀ turns₀ list present turns = (turns ≤ length text) × (length list ≡ 49155)
 
 abbrev μ-loop : tie.MeasureT-loop
-μ-loop text list₀ state₀ turns₀ list state turns = length text - turns
+μ-loop text list₀ present₀ turns₀ list present turns = length text - turns
 
 loop-holds : tie.Need-loop-holds Inv-loop μ-loop
 loop-holds c = search needs

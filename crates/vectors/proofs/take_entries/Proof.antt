@@ -2,16 +2,19 @@
 -- The invariant: the list keeps its length. The measure is what is left to be taken.
 use Prim.Native.Nat.{_-_}
 use mathlib.Core.Path.{_≡_}
-use lib.ListN.{length}
+use lib.ListN.{length, length-set}
 use borrow.Author.Needs.{needs}
 use Rattle.vectors.proofs.take_entries.Statement.{statement}
 use Rattle.vectors.proofs.take_entries.Tie as tie
 
 abbrev Inv-loop : tie.InvT-loop
-Inv-loop text first mesh list₀ end i₀ behind₀ list i behind = length list ≡ length list₀
+Inv-loop text from count present list₀ end i₀ after₀ list i after = length list ≡ length list₀
 
 abbrev μ-loop : tie.MeasureT-loop
-μ-loop text first mesh list₀ end i₀ behind₀ list i behind = end - i
+μ-loop text from count present list₀ end i₀ after₀ list i after = end - i
+
+end-of-requires : tie.Need-end-of-requires Inv-loop μ-loop
+end-of-requires c κs = search needs
 
 wrong-requires : tie.Need-wrong-requires Inv-loop μ-loop
 wrong-requires c κs = search needs
@@ -28,9 +31,6 @@ next-requires c κs = search needs
 enum-known-value : tie.Need-enum-known-value Inv-loop μ-loop
 enum-known-value c = search needs
 
-enum-told : tie.Need-enum-told Inv-loop μ-loop
-enum-told c = search needs
-
 wrong-requires-2 : tie.Need-wrong-requires-2 Inv-loop μ-loop
 wrong-requires-2 c κs = search needs
 
@@ -39,6 +39,9 @@ same-length c = search needs
 
 returns-2 : tie.Need-returns-2 Inv-loop μ-loop
 returns-2 c = search needs
+
+cast-list : tie.Need-cast-list Inv-loop μ-loop
+cast-list c = search needs
 
 mul-list : tie.Need-mul-list Inv-loop μ-loop
 mul-list c = search needs
@@ -55,8 +58,8 @@ loop-less c = search needs
 loop-again : tie.Need-loop-again Inv-loop μ-loop
 loop-again c = search needs
 
-moved-requires : tie.Need-moved-requires Inv-loop μ-loop
-moved-requires c κs = search needs
+with-entries-requires : tie.Need-with-entries-requires Inv-loop μ-loop
+with-entries-requires c κs = search needs
 
 same-length-2 : tie.Need-same-length-2 Inv-loop μ-loop
 same-length-2 c = search needs
@@ -70,20 +73,21 @@ take-entries-spec =
     (tie.spec
     Inv-loop
     μ-loop
+    end-of-requires
     wrong-requires
     returns
     loop-holds
     next-requires
     enum-known-value
-    enum-told
     wrong-requires-2
     same-length
     returns-2
+    cast-list
     mul-list
     slice-write-list
     add-i
     loop-less
     loop-again
-    moved-requires
+    with-entries-requires
     same-length-2
     returns-3)

@@ -1,16 +1,15 @@
--- `flatcarol::call_undo_one::flatcarol_undo_one` meets its contract: a verdict other than 0 on the numbers and the
--- room is its answer, else that of `undo_mesh`, and the work buffers are cleared before and behind it.
+-- `flatcarol::call_undo_one::flatcarol_undo_one` meets its contract: the verdict on its sizes by the shortest work
+-- buffer is that by all of them, `undo_mesh` does what the call promises for when the work buffers are cleared, and
+-- `clear_nine` clears them.
 use Prim.Native.Nat.{ℕ}
-use native.Mathlib.Omega.{arith}
-use mathlib.Core.Path.{_≡_, ap}
+use mathlib.Core.Path.{_≡_, _∙_}
 use mathlib.Core.List.{List, [], _∷_, map}
 use lib.ListN.{length}
-use borrow.Author.Needs.{needs}
-use Rattle.theory.specs.Mesh.{at}
-use Rattle.theory.specs.Calls.{zeros}
-use Rattle.parts.specs.Answers.{outputs}
-use Rattle.lent.proofs.Buffers.{listed, alike-equal, cleared-lengths, cleared-again}
-use Rattle.flatcarol.proofs.Undoes.{UndoChecked, undo-refused, undo-lent, undo-does}
+use Rattle.theory.specs.Limits.{anyRole}
+use Rattle.theory.specs.Mesh.{triangles}
+use Rattle.theory.specs.Calls.{zeros, undoNumberRules, undoOneRooms}
+use Rattle.calls_sizes.proofs.Shortest.{judged-by-all}
+use Rattle.calls_work.proofs.Buffers.{listed, used-cleared}
 use Rattle.flatcarol.proofs.call_undo_one.flatcarol_undo_one.Statement.{statement}
 use Rattle.flatcarol.proofs.call_undo_one.flatcarol_undo_one.Tie as tie
 
@@ -21,31 +20,19 @@ entry c =
     c .before .before .before .before .before .before .before .before .before .before .before .before .before
     .before .before
 
-abbrev judged : tie.After-clear-nine → tie.After-judge-undo-one-size
-judged c = c .before .before .before .before .before .before .before .before .before .before
+abbrev sized : tie.After-undo-mesh-arg12 → tie.After-judge-undo-one-size
+sized c = c .before .before .before .before .before .before .before .before .before .before .before .before
 
-abbrev cleared : tie.After-slice-known21 → tie.After-clear-nine
-cleared c =
-    c .before .before .before .before .before .before .before .before .before .before .before .before .before
-    .before .before .before .before .before
-
-abbrev left : tie.After-undo-mesh-arg12 → tie.Else1
-left c = c .before .before .before .before .before .before .before .before .before .before .before .before
-
-abbrev worked : tie.After-clear-nine2 → tie.After-undo-mesh
+abbrev worked : tie.After-clear-nine → tie.After-undo-mesh
 worked c =
     c .before .before .before .before .before .before .before .before .before .before .before .before .before
     .before .before .before .before .before .before .before .before .before .before .before .before .before .before
     .before .before .before .before .before .before .before
 
-abbrev end : tie.After-slice-known42 → tie.After-clear-nine2
+abbrev end : tie.After-slice-known33 → tie.After-clear-nine
 end c =
     c .before .before .before .before .before .before .before .before .before .before .before .before .before
     .before .before .before .before .before
-
--- the first clearing before the second
-abbrev first : tie.After-clear-nine2 → tie.After-clear-nine
-first c = cleared (left (worked c .before) .before)
 
 -- ---- the nine work buffers
 
@@ -60,149 +47,97 @@ others s =
 abbrev lent : tie.Start → List (List ℕ)
 lent s = s .args .work1 .now ∷ others s
 
--- as they are first cleared
-abbrev zero-at-first : tie.After-clear-nine → List (List ℕ)
-zero-at-first c = listed 9 (c .clear-nine .last)
-
 -- as `undo_mesh` leaves them
 abbrev used : tie.After-undo-mesh → List (List ℕ)
-used c = listed 9 (c .undo-mesh .last .1 .1 .1 .1 .1 .1)
+used c = listed 9 (c .undo-mesh .last .1 .1 .1 .1 .1 .1 .1)
 
 -- as they are at the end
-abbrev zero-at-end : tie.After-clear-nine2 → List (List ℕ)
-zero-at-end c = listed 9 (c .clear-nine2 .last)
+abbrev cleared : tie.After-clear-nine → List (List ℕ)
+cleared c = listed 9 (c .clear-nine .last)
 
--- they are as long when they are first cleared
-as-long-at-first : (c : tie.After-clear-nine) → map length (zero-at-first c) ≡ map length (lent (entry (judged c)))
-as-long-at-first c = cleared-lengths (lent (entry (judged c))) (zero-at-first c) (c .clear-nine .ensures)
-
--- at the end they are zero
-all-zero : (c : tie.After-clear-nine2) → zero-at-end c ≡ map zeros (lent (entry (judged (first c))))
+-- then they are zero
+all-zero : (c : tie.After-clear-nine) → cleared c ≡ map zeros (lent (entry (sized (worked c .before))))
 all-zero c =
-    let f = first c in
     let w = worked c in
-    cleared-again (lent (entry (judged f))) (zero-at-first f) (used w) (zero-at-end c) (f .clear-nine .ensures)
-    (alike-equal (map length (used w)) (map length (zero-at-first f)) (w .undo-mesh .kept .1 .1 .1 .1 .1 .1))
-    (c .clear-nine2 .ensures)
-
--- so they are as long
-as-long-at-end : (c : tie.After-clear-nine2)
-    → map length (zero-at-end c) ≡ map length (lent (entry (judged (first c))))
-as-long-at-end c = cleared-lengths (lent (entry (judged (first c)))) (zero-at-end c) (all-zero c)
+    used-cleared (lent (entry (sized (w .before)))) (used w) (cleared c) (w .undo-mesh .kept .1 .1 .1 .1 .1 .1 .1)
+    (c .clear-nine .ensures)
 
 -- ---- the answers
 
--- the verdict on the numbers and the room
-checks : (c : tie.After-judge-undo-one-size)
-    → let a = entry c .args in
-    UndoChecked (a .vertices) (a .list .now) (a .asked)
-    (outputs (a .mesh .now) (a .vertex-map .now) (a .triangle-map .now)) (a .work1 .now) (others (entry c))
-    (c .judge-undo-one-size .result)
-checks c = record {
-  checked = record {
-    least-length = c .before .shortest-of-nine .result;
-    shortest = c .before .shortest-of-nine .ensures;
-    verdict = c .judge-undo-one-size .ensures;
-    above = omega arith;
-  };
-}
-
 shortest-of-nine-requires : tie.Need-shortest-of-nine-requires
-shortest-of-nine-requires c κs = search needs
+shortest-of-nine-requires c κs = tt
 
 judge-undo-one-size-requires : tie.Need-judge-undo-one-size-requires
-judge-undo-one-size-requires c κs = search needs
-
-clear-nine-requires : tie.Need-clear-nine-requires
-clear-nine-requires c κs = search needs
-
-refused-one-requires : tie.Need-refused-one-requires
-refused-one-requires c κs = search needs
-
-same-length : tie.Need-same-length
-same-length c = ap (λ lengths. at lengths 0) (as-long-at-first (cleared (c .before .before)))
-
-same-length-2 : tie.Need-same-length-2
-same-length-2 c = ap (λ lengths. at lengths 1) (as-long-at-first (cleared (c .before .before)))
-
-same-length-3 : tie.Need-same-length-3
-same-length-3 c = ap (λ lengths. at lengths 2) (as-long-at-first (cleared (c .before .before)))
-
-same-length-4 : tie.Need-same-length-4
-same-length-4 c = ap (λ lengths. at lengths 3) (as-long-at-first (cleared (c .before .before)))
-
-same-length-5 : tie.Need-same-length-5
-same-length-5 c = ap (λ lengths. at lengths 4) (as-long-at-first (cleared (c .before .before)))
-
-same-length-6 : tie.Need-same-length-6
-same-length-6 c = ap (λ lengths. at lengths 5) (as-long-at-first (cleared (c .before .before)))
-
-same-length-7 : tie.Need-same-length-7
-same-length-7 c = ap (λ lengths. at lengths 6) (as-long-at-first (cleared (c .before .before)))
-
-same-length-8 : tie.Need-same-length-8
-same-length-8 c = ap (λ lengths. at lengths 7) (as-long-at-first (cleared (c .before .before)))
-
-same-length-9 : tie.Need-same-length-9
-same-length-9 c = ap (λ lengths. at lengths 8) (as-long-at-first (cleared (c .before .before)))
-
-returns : tie.Need-returns
-returns c =
-    let f = cleared (c .before .before) in
-    undo-refused (checks (judged f)) {works′ = zero-at-first f} (c .before .if1 .taken) (c .refused-one .ensures)
-    (f .clear-nine .ensures)
+judge-undo-one-size-requires c κs = tt
 
 undo-mesh-requires : tie.Need-undo-mesh-requires
 undo-mesh-requires c κs =
-    let l = left c in
-    let f = cleared (l .before) in
-    undo-lent (checks (judged f)) (l .if1 .left) (zero-at-first f) (as-long-at-first f)
+    let j = sized c in
+    let s = entry j in
+    let a = s .args in
+    let N = a .vertices in
+    let T = a .list .now in
+    record {
+      judged = judged-by-all (undoNumberRules anyRole N (length T) (a .asked)) N (triangles T)
+          (undoOneRooms N (triangles T) (length (a .mesh .now)) (length (a .vertex-map .now))
+          (length (a .triangle-map .now)) [])
+          (length (a .work1 .now)) (map length (others s)) (j .before .shortest-of-nine .ensures)
+          (j .judge-undo-one-size .ensures);
+    }
 
-clear-nine-requires-2 : tie.Need-clear-nine-requires-2
-clear-nine-requires-2 c κs = search needs
+clear-nine-requires : tie.Need-clear-nine-requires
+clear-nine-requires c κs = tt
+
+same-length : tie.Need-same-length
+same-length c = worked (end c) .undo-mesh .kept .1 .1 .1 .1 .0
+
+same-length-2 : tie.Need-same-length-2
+same-length-2 c = worked (end c) .undo-mesh .kept .1 .1 .1 .1 .1 .0
+
+same-length-3 : tie.Need-same-length-3
+same-length-3 c = worked (end c) .undo-mesh .kept .1 .1 .1 .1 .1 .1 .0
+
+same-length-4 : tie.Need-same-length-4
+same-length-4 c = end c .clear-nine .kept .0 ∙ worked (end c) .undo-mesh .kept .1 .1 .1 .1 .1 .1 .1 .0
+
+same-length-5 : tie.Need-same-length-5
+same-length-5 c = end c .clear-nine .kept .1 .0 ∙ worked (end c) .undo-mesh .kept .1 .1 .1 .1 .1 .1 .1 .1 .0
+
+same-length-6 : tie.Need-same-length-6
+same-length-6 c = end c .clear-nine .kept .1 .1 .0 ∙ worked (end c) .undo-mesh .kept .1 .1 .1 .1 .1 .1 .1 .1 .1 .0
+
+same-length-7 : tie.Need-same-length-7
+same-length-7 c =
+    end c .clear-nine .kept .1 .1 .1 .0 ∙ worked (end c) .undo-mesh .kept .1 .1 .1 .1 .1 .1 .1 .1 .1 .1 .0
+
+same-length-8 : tie.Need-same-length-8
+same-length-8 c =
+    end c .clear-nine .kept .1 .1 .1 .1 .0 ∙ worked (end c) .undo-mesh .kept .1 .1 .1 .1 .1 .1 .1 .1 .1 .1 .1 .0
+
+same-length-9 : tie.Need-same-length-9
+same-length-9 c =
+    end c .clear-nine .kept .1 .1 .1 .1 .1 .0
+    ∙ worked (end c) .undo-mesh .kept .1 .1 .1 .1 .1 .1 .1 .1 .1 .1 .1 .1 .0
 
 same-length-10 : tie.Need-same-length-10
-same-length-10 c = worked (end c) .undo-mesh .kept .1 .1 .1 .0
+same-length-10 c =
+    end c .clear-nine .kept .1 .1 .1 .1 .1 .1 .0
+    ∙ worked (end c) .undo-mesh .kept .1 .1 .1 .1 .1 .1 .1 .1 .1 .1 .1 .1 .1 .0
 
 same-length-11 : tie.Need-same-length-11
-same-length-11 c = worked (end c) .undo-mesh .kept .1 .1 .1 .1 .0
+same-length-11 c =
+    end c .clear-nine .kept .1 .1 .1 .1 .1 .1 .1 .0
+    ∙ worked (end c) .undo-mesh .kept .1 .1 .1 .1 .1 .1 .1 .1 .1 .1 .1 .1 .1 .1 .0
 
 same-length-12 : tie.Need-same-length-12
-same-length-12 c = worked (end c) .undo-mesh .kept .1 .1 .1 .1 .1 .0
+same-length-12 c =
+    end c .clear-nine .kept .1 .1 .1 .1 .1 .1 .1 .1 .0
+    ∙ worked (end c) .undo-mesh .kept .1 .1 .1 .1 .1 .1 .1 .1 .1 .1 .1 .1 .1 .1 .1 .0
 
-same-length-13 : tie.Need-same-length-13
-same-length-13 c = ap (λ lengths. at lengths 0) (as-long-at-end (end c))
-
-same-length-14 : tie.Need-same-length-14
-same-length-14 c = ap (λ lengths. at lengths 1) (as-long-at-end (end c))
-
-same-length-15 : tie.Need-same-length-15
-same-length-15 c = ap (λ lengths. at lengths 2) (as-long-at-end (end c))
-
-same-length-16 : tie.Need-same-length-16
-same-length-16 c = ap (λ lengths. at lengths 3) (as-long-at-end (end c))
-
-same-length-17 : tie.Need-same-length-17
-same-length-17 c = ap (λ lengths. at lengths 4) (as-long-at-end (end c))
-
-same-length-18 : tie.Need-same-length-18
-same-length-18 c = ap (λ lengths. at lengths 5) (as-long-at-end (end c))
-
-same-length-19 : tie.Need-same-length-19
-same-length-19 c = ap (λ lengths. at lengths 6) (as-long-at-end (end c))
-
-same-length-20 : tie.Need-same-length-20
-same-length-20 c = ap (λ lengths. at lengths 7) (as-long-at-end (end c))
-
-same-length-21 : tie.Need-same-length-21
-same-length-21 c = ap (λ lengths. at lengths 8) (as-long-at-end (end c))
-
-returns-2 : tie.Need-returns-2
-returns-2 c =
+returns : tie.Need-returns
+returns c =
     let e = end c in
-    let w = worked e in
-    let l = left (w .before) in
-    undo-does (checks (judged (cleared (l .before)))) (l .if1 .left) (w .undo-mesh .ensures) (all-zero e)
+    rw (all-zero e) (worked e .undo-mesh .ensures)
 
 pub flatcarol-undo-one-spec : {M : Type 1} → statement M
 flatcarol-undo-one-spec =
@@ -210,8 +145,8 @@ flatcarol-undo-one-spec =
     (tie.spec
     shortest-of-nine-requires
     judge-undo-one-size-requires
+    undo-mesh-requires
     clear-nine-requires
-    refused-one-requires
     same-length
     same-length-2
     same-length-3
@@ -221,19 +156,7 @@ flatcarol-undo-one-spec =
     same-length-7
     same-length-8
     same-length-9
-    returns
-    undo-mesh-requires
-    clear-nine-requires-2
     same-length-10
     same-length-11
     same-length-12
-    same-length-13
-    same-length-14
-    same-length-15
-    same-length-16
-    same-length-17
-    same-length-18
-    same-length-19
-    same-length-20
-    same-length-21
-    returns-2)
+    returns)

@@ -1,7 +1,6 @@
 -- `limits::size::judge_asked` meets its contract: the test is the row's condition.
 use native.Mathlib.Omega.{arith}
-use Rattle.limits.proofs.Judgement.{judged-none}
-use Rattle.limits.proofs.Sized.{judged-at-0, judged-not}
+use Rattle.limits.proofs.Judgement.{judged-none, judged-at-0, judged-not}
 use Rattle.limits.proofs.size.judge_asked.Statement.{statement}
 use Rattle.limits.proofs.size.judge_asked.Tie as tie
 

@@ -1,8 +1,7 @@
 -- `limits::size::judge_large` meets its contract: the two tests are those of the row's condition.
 use native.Mathlib.Omega.{arith}
 use mathlib.Core.Logic.{inl, inr, ⊎-elim}
-use Rattle.limits.proofs.Judgement.{judged-none}
-use Rattle.limits.proofs.Sized.{judged-at-0, judged-not}
+use Rattle.limits.proofs.Judgement.{judged-none, judged-at-0, judged-not}
 use Rattle.limits.proofs.size.judge_large.Statement.{statement}
 use Rattle.limits.proofs.size.judge_large.Tie as tie
 

@@ -1,8 +1,7 @@
 -- `limits::size::judge_size` meets its contract: 2 by `judge_threes`, 3 by the test, and 4 by `judge_large`.
 use native.Mathlib.Omega.{arith}
 use borrow.Author.Needs.{needs}
-use Rattle.limits.proofs.Judgement.{judged-passed, judged-front, judged-back}
-use Rattle.limits.proofs.Sized.{judged-at-0, judged-not}
+use Rattle.limits.proofs.Judgement.{judged-at-0, judged-not, judged-passed, judged-front, judged-back}
 use Rattle.limits.proofs.size.judge_size.Statement.{statement}
 use Rattle.limits.proofs.size.judge_size.Tie as tie
 

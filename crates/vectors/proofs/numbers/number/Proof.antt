@@ -7,10 +7,10 @@ use Rattle.vectors.proofs.numbers.number.Statement.{statement}
 use Rattle.vectors.proofs.numbers.number.Tie as tie
 
 abbrev Inv-loop : tie.InvT-loop
-Inv-loop text start value₀ at₀ value at = start ≤ at
+Inv-loop text start most value₀ at₀ value at = start ≤ at
 
 abbrev μ-loop : tie.MeasureT-loop
-μ-loop text start value₀ at₀ value at = length text - at
+μ-loop text start most value₀ at₀ value at = length text - at
 
 loop-holds : tie.Need-loop-holds Inv-loop μ-loop
 loop-holds c = search needs
@@ -27,8 +27,14 @@ judged-requires c κs = search needs
 returns : tie.Need-returns Inv-loop μ-loop
 returns c = search needs
 
-with-digit-requires : tie.Need-with-digit-requires Inv-loop μ-loop
-with-digit-requires c κs = search needs
+returns-2 : tie.Need-returns-2 Inv-loop μ-loop
+returns-2 c = search needs
+
+mul-value : tie.Need-mul-value Inv-loop μ-loop
+mul-value c = search needs
+
+add-value : tie.Need-add-value Inv-loop μ-loop
+add-value c = search needs
 
 add-at : tie.Need-add-at Inv-loop μ-loop
 add-at c = search needs
@@ -42,8 +48,8 @@ loop-again c = search needs
 judged-requires-2 : tie.Need-judged-requires-2 Inv-loop μ-loop
 judged-requires-2 c κs = search needs
 
-returns-2 : tie.Need-returns-2 Inv-loop μ-loop
-returns-2 c = search needs
+returns-3 : tie.Need-returns-3 Inv-loop μ-loop
+returns-3 c = search needs
 
 pub number-spec : {M : Type 1} → statement M
 number-spec =
@@ -56,9 +62,11 @@ number-spec =
     digit-of-requires
     judged-requires
     returns
-    with-digit-requires
+    returns-2
+    mul-value
+    add-value
     add-at
     loop-less
     loop-again
     judged-requires-2
-    returns-2)
+    returns-3)

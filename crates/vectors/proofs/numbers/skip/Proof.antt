@@ -15,6 +15,9 @@ abbrev μ-loop : tie.MeasureT-loop
 loop-holds : tie.Need-loop-holds Inv-loop μ-loop
 loop-holds c = search needs
 
+shared-slice-read-is-comment : tie.Need-shared-slice-read-is-comment Inv-loop μ-loop
+shared-slice-read-is-comment c = search needs
+
 is-comment-requires : tie.Need-is-comment-requires Inv-loop μ-loop
 is-comment-requires c κs = search needs
 
@@ -46,6 +49,7 @@ skip-spec =
     Inv-loop
     μ-loop
     loop-holds
+    shared-slice-read-is-comment
     is-comment-requires
     shared-slice-read-passed
     passed-requires

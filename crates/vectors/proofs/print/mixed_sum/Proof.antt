@@ -1,25 +1,21 @@
 -- `vectors::print::mixed_sum` meets its contract.
--- The invariant: the sum is below the modulus. The measure is what is left of the list.
+-- The invariant: the sum is below the modulus. The measure is what is left to be added.
 use Prim.Native.Nat.{_<_, _-_}
-use lib.ListN.{length}
 use borrow.Author.Needs.{needs}
 use Rattle.vectors.proofs.print.mixed_sum.Statement.{statement}
 use Rattle.vectors.proofs.print.mixed_sum.Tie as tie
 
 abbrev Inv-loop : tie.InvT-loop
-Inv-loop list sum₀ i₀ sum i = sum < 1000003
+Inv-loop list count sum₀ i₀ sum i = sum < 1000003
 
 abbrev μ-loop : tie.MeasureT-loop
-μ-loop list sum₀ i₀ sum i = length list - i
+μ-loop list count sum₀ i₀ sum i = count - i
 
 loop-holds : tie.Need-loop-holds Inv-loop μ-loop
 loop-holds c = search needs
 
-mul-with-entry : tie.Need-mul-with-entry Inv-loop μ-loop
-mul-with-entry c = search needs
-
-shared-slice-read-with-entry : tie.Need-shared-slice-read-with-entry Inv-loop μ-loop
-shared-slice-read-with-entry c = search needs
+entry-requires : tie.Need-entry-requires Inv-loop μ-loop
+entry-requires c κs = search needs
 
 with-entry-requires : tie.Need-with-entry-requires Inv-loop μ-loop
 with-entry-requires c κs = search needs
@@ -43,8 +39,7 @@ mixed-sum-spec =
     Inv-loop
     μ-loop
     loop-holds
-    mul-with-entry
-    shared-slice-read-with-entry
+    entry-requires
     with-entry-requires
     add-i
     loop-less

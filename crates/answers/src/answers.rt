@@ -1,0 +1,117 @@
+// The answers of the calls: each is made in two places only, one for refusals and one for acceptance.
+use super::levels::Levels;
+use limits::limits::Limits;
+ghost use mathlib.Core.Path.{_≡_};
+ghost use Rattle.theory.specs.Calls as promise;
+ghost use Rattle.answers.specs.Levels.{answerToLevels};
+ghost use Rattle.answers.specs.Answers.{answerOf, oneAnswerOf, severalAnswerOf};
+
+// What a call answers: the refusal's number and place, or 0, 0 and the resulting counts.
+#[repr(C)]
+pub struct Answer {
+    pub refusal: u64,
+    pub place: u64,
+    pub vertices: u64,
+    pub triangles: u64,
+}
+
+// A refusal: every other number is 0.
+pub fn refused(refusal: u64, place: u64) -> Answer
+    ensures { λ r. ⌜ answerOf r ≡ promise.refusal refusal place ⌝ }
+{
+    Answer {
+        refusal,
+        place,
+        vertices: 0,
+        triangles: 0,
+    }
+}
+
+// An acceptance.
+pub fn accepted(vertices: usize, triangles: usize) -> Answer
+    ensures { λ r. ⌜ answerOf r ≡ promise.accepted vertices triangles ⌝ }
+{
+    Answer {
+        refusal: 0,
+        place: 0,
+        vertices: vertices as u64,
+        triangles: triangles as u64,
+    }
+}
+
+// What undo one answers: the same, and the role that triangle 0 has.
+#[repr(C)]
+pub struct OneAnswer {
+    pub refusal: u64,
+    pub place: u64,
+    pub vertices: u64,
+    pub triangles: u64,
+    pub role: u64,
+}
+
+// A refusal of undo one.
+pub fn refused_one(refusal: u64, place: u64) -> OneAnswer
+    ensures { λ r. ⌜ oneAnswerOf r ≡ promise.oneRefusal refusal place ⌝ }
+{
+    OneAnswer {
+        refusal,
+        place,
+        vertices: 0,
+        triangles: 0,
+        role: 0,
+    }
+}
+
+// An acceptance of undo one.
+pub fn accepted_one(vertices: usize, triangles: usize, role: usize) -> OneAnswer
+    ensures { λ r. ⌜ oneAnswerOf r ≡ promise.oneAccepted role vertices triangles ⌝ }
+{
+    OneAnswer {
+        refusal: 0,
+        place: 0,
+        vertices: vertices as u64,
+        triangles: triangles as u64,
+        role: role as u64,
+    }
+}
+
+// What undo several answers: the same as split, how many levels were undone, and the role of each, with 0 in the
+// places after them.
+#[repr(C)]
+pub struct SeveralAnswer {
+    pub refusal: u64,
+    pub place: u64,
+    pub vertices: u64,
+    pub triangles: u64,
+    pub levels: u64,
+    pub roles: [u8; Limits::PLACES],
+}
+
+// A refusal of undo several.
+pub fn refused_several(refusal: u64, place: u64) -> SeveralAnswer
+    ensures { λ r. ⌜ severalAnswerOf r ≡ promise.severalRefusal refusal place ⌝ }
+{
+    SeveralAnswer {
+        refusal,
+        place,
+        vertices: 0,
+        triangles: 0,
+        levels: 0,
+        roles: [0; Limits::PLACES],
+    }
+}
+
+// An acceptance of undo several.
+pub fn accepted_several(undone: Levels) -> SeveralAnswer
+    ensures { λ r. ⌜ severalAnswerOf r ≡ answerToLevels undone ⌝ }
+{
+    let roles = undone.roles;
+    SeveralAnswer {
+        refusal: 0,
+        place: 0,
+        vertices: undone.vertices as u64,
+        triangles: undone.triangles as u64,
+        levels: undone.levels,
+        roles,
+    }
+}

@@ -1,0 +1,65 @@
+// What an undo takes, and what becomes of it.
+use super::answers::OneAnswer;
+use super::answers::accepted_one;
+use super::answers::refused_one;
+use lists::copy;
+ghost use mathlib.Core.Path.{_≡_};
+ghost use Rattle.answers.specs.Answers.{oneAnswerOf, outputs};
+ghost use Rattle.answers.specs.Taken.{ReadingLent, leftBy, answerTo};
+
+// A role that has a reading, with the counts of its coarse mesh; or nothing, where there is none.
+pub enum Taken {
+    Reading {
+        role: usize,
+        vertices: usize,
+        triangles: usize,
+    },
+    Nothing,
+}
+
+// Writes the reading that is taken, which stands in `coarse`, `map` and `faces`, to the outputs of an undo of so many
+// vertices and triangles. Where nothing is taken it writes nothing.
+pub fn write_reading(
+    taken: Taken,
+    vertices: usize,
+    triangles: usize,
+    coarse: &[u16],
+    map: &[u16],
+    faces: &[u16],
+    mesh: &mut [u16],
+    vertex_map: &mut [u16],
+    triangle_map: &mut [u16],
+)
+    requires { ⌜ ReadingLent taken vertices triangles (now coarse) (now map) (now faces)
+        (outputs (now mesh) (now «vertex_map») (now «triangle_map»)) ⌝ }
+    ensures { λ _. ⌜ outputs (now (mesh .exit)) (now («vertex_map» .exit)) (now («triangle_map» .exit))
+        ≡ leftBy taken vertices triangles (now (coarse .entry)) (now (map .entry)) (now (faces .entry))
+        (outputs (now (mesh .entry)) (now («vertex_map» .entry)) (now («triangle_map» .entry))) ⌝ }
+{
+    let Taken::Reading {
+        role: _,
+        vertices: _,
+        triangles: centres,
+    } = taken
+    else {
+        return;
+    };
+    copy(coarse, mesh, 3 * centres);
+    copy(map, vertex_map, vertices);
+    copy(faces, triangle_map, triangles);
+}
+
+// The answer to what is taken: the role with the counts of the coarse mesh, or 11.
+pub fn answer_taken(taken: Taken) -> OneAnswer
+    ensures { λ r. ⌜ oneAnswerOf r ≡ answerTo taken ⌝ }
+{
+    let Taken::Reading {
+        role,
+        vertices,
+        triangles,
+    } = taken
+    else {
+        return refused_one(11, 0);
+    };
+    accepted_one(vertices, triangles, role)
+}

@@ -1,0 +1,2 @@
+-- Laws for whoever calls the functions.
+pub mod Shortest

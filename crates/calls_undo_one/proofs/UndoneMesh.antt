@@ -1,0 +1,150 @@
+-- The work of undo one: what `judge`, `cover`, `chosen_role` and `write_reading` are lent, each from what the call is
+-- lent and from those before, and what the call comes to.
+use Prim.Native.Nat.{ℕ, _*_, _%_, _≤_}
+use native.Mathlib.Omega.{arith}
+use mathlib.Core.Path.{_≡_, refl, ap, _∙_}
+use mathlib.Core.Logic.{_≢_, inl}
+use mathlib.Core.List.{List, [], _∷_}
+use lib.ListN.{length, take, length-take}
+use lib.Seq.{length-take-le}
+use Rattle.theory.specs.Limits.{anyRole}
+use Rattle.theory.specs.Mesh.{triangles, Same}
+use Rattle.theory.specs.Splitting.{firstOn}
+use Rattle.theory.specs.Reading.{Returned}
+use Rattle.theory.specs.Choice.{NoneChosen}
+use Rattle.theory.specs.Refusals.{noReading, meshRules, Passed, Refused}
+use Rattle.theory.specs.Calls.{OneAnswer, Outputs, oneRefusal, oneAccepted, refuses, accepts}
+use Rattle.theory.specs.Calls.{lentToUndoOne, undoOneSizeRules, undoOneMeshRules}
+use Rattle.theory.proofs.Refusals.{at-place-0, passed-both, refused-by-front, refused-by-back}
+use Rattle.theory.proofs.Determined.{chosen-not-refused, quarter}
+use Rattle.theory.proofs.Results.{none-chosen}
+use Rattle.limits.proofs.Judgement.{judged-refused}
+use Rattle.answers.specs.declared.taken.Taken.{Taken}
+use Rattle.answers.specs.Taken.{readingIn, centresOf, ReadingLent, leftBy, answerTo}
+use Rattle.mesh_rings.specs.Ring.{RingBy}
+use Rattle.mesh_judge.specs.Judging.{MeshJudged}
+use Rattle.undo_cover.specs.Cover.{CoverLent, CoverMade}
+use Rattle.undo_role.specs.Buffers.{Buffers, Rooms}
+use Rattle.undo_role.specs.Tried.{Undoable}
+use Rattle.undo_role.proofs.Rooms.{SameLengths, rooms-kept, cover-lent}
+use Rattle.undo_roles.specs.Choices.{ChoiceLent, ChosenTried, found, none}
+use Rattle.undo_roles.proofs.Uneven.{uneven-none}
+use Rattle.calls_undo_one.specs.Undoing.{works, UndoLent, UndoesMesh}
+use Rattle.calls_undo_one.proofs.Housed.{SizesPassed, sizes-passed, Housed, housed, undoable}
+
+-- a list whose 1 to 5 do not come to 0 is refused
+pub refusing-sizes : {number N : ℕ} {T : List ℕ} {asked : ℕ} {out : Outputs} {b : Buffers} {answer : OneAnswer}
+    → UndoLent number N T asked out b → number ≢ 0 → answer ≡ oneRefusal number 0
+    → UndoesMesh N T asked out b answer out
+refusing-sizes {number} {N} {T} {asked} {out} {b} L n said =
+    refuses number 0
+    (refused-by-front (undoOneSizeRules N (length T) asked (lentToUndoOne N T out (works b)))
+    (undoOneMeshRules N T asked) number 0 (judged-refused (L .judged) n))
+    said refl refl
+
+module _ {number N : ℕ} {T : List ℕ} {asked : ℕ} {out : Outputs} {b₀ : Buffers}
+    (L : UndoLent number N T asked out b₀) (z : number ≡ 0) where
+  -- ---- 1 to 5 are passed
+
+  sizes : SizesPassed anyRole N T asked (lentToUndoOne N T out (works b₀))
+  sizes = sizes-passed (L .judged) z
+
+  -- there is room for the list in the work buffers
+  pub lent-housed : Housed N T b₀
+  lent-housed = housed (sizes .sizes) (sizes .fits .1 .1 .1)
+
+  -- ---- what is refused
+
+  module _ {answer : OneAnswer} {out′ : Outputs} where
+    -- what 6 to 11 refuse
+    refusing-by : (verdict place : ℕ) → Refused (undoOneMeshRules N T asked) verdict place
+        → answer ≡ oneRefusal verdict place → out′ ≡ out → UndoesMesh N T asked out b₀ answer out′
+    refusing-by verdict place refused said left =
+        refuses verdict place
+        (refused-by-back (undoOneSizeRules N (length T) asked (lentToUndoOne N T out (works b₀)))
+        (undoOneMeshRules N T asked) verdict place (sizes .passed) refused)
+        said left refl
+
+    -- a mesh without a reading
+    without : Passed (meshRules N T) → NoneChosen N T asked → answer ≡ oneRefusal 11 0 → out′ ≡ out
+        → UndoesMesh N T asked out b₀ answer out′
+    unfolding Refused
+    without passed refuted =
+        refusing-by 11 0
+        (refused-by-back (meshRules N T) (noReading N T asked ∷ []) 11 0 passed (inl (refl, at-place-0 refuted)))
+
+  module _ {answer : OneAnswer} where
+    -- a mesh that is not proper
+    pub refusing : {ring : List ℕ} {verdict place : ℕ} → MeshJudged N (triangles T) T ring verdict place → verdict ≢ 0
+        → answer ≡ oneRefusal verdict place → UndoesMesh N T asked out b₀ answer out
+    refusing {verdict = verdict} {place} judged n said =
+        refusing-by verdict place
+        (refused-by-front (meshRules N T) (noReading N T asked ∷ []) verdict place (judged-refused (judged .verdict) n))
+        said refl
+
+    -- one whose triangles are no multiple of four
+    pub uneven : Passed (meshRules N T) → triangles T % 4 ≢ 0 → answer ≡ oneRefusal 11 0
+        → UndoesMesh N T asked out b₀ answer out
+    uneven passed n said =
+        without passed
+        (none-chosen (sizes .known) (uneven-none (triangles T) (undoable lent-housed passed .whole) n)) said refl
+
+  -- ---- what is lent
+
+  module _ {b : Buffers} (K : SameLengths b₀ b) (passed : Passed (meshRules N T)) where
+    mesh : Undoable N (triangles T) T
+    mesh = undoable lent-housed passed
+
+    rooms : Rooms N (triangles T) b
+    rooms = rooms-kept (omega arith) (lent-housed .rooms) K
+
+    -- what `cover` requires
+    pub coverable : RingBy (3 * triangles T) (firstOn T) (b .ring)
+        → CoverLent N (triangles T) T (b .other) (b .rows) (b .ring) (b .marks) (b .coarse) (b .numbers) (b .map)
+    coverable ringed = cover-lent mesh ringed rooms
+
+    -- what `chosen_role` requires, once the covering mesh is made
+    pub choosable : CoverMade (triangles T) T (b .other) (b .rows) (b .ring) → ChoiceLent asked N (triangles T) T b
+    choosable made = record { known = sizes .known; lent = record { mesh = mesh; made = made; rooms = rooms } }
+
+    -- the coarse mesh has a quarter of the triangles
+    quartered : {role M : ℕ} (n : ℕ)
+        → Returned Same N T role (readingIn N (triangles T) M n (b .coarse) (b .map) (b .faces)) → triangles T ≡ 4 * n
+    quartered n R =
+        omega (arith, quarter (R .is), length-take (3 * n) (b .coarse), rooms .coarse .room, mesh .some)
+
+    -- what `write_reading` requires, by the size of the coarse mesh
+    fitting : (reading : Taken) → 4 * centresOf reading ≤ triangles T
+        → ReadingLent reading N (triangles T) (b .coarse) (b .map) (b .faces) out
+    fitting reading size = record {
+      coarseRoom = omega (arith, size, rooms .coarse .room);
+      mapRoom = omega (arith, rooms .map .room);
+      facesRoom = omega (arith, rooms .faces .room);
+      mesh = omega (arith, size, sizes .fits .0);
+      vertexMap = sizes .fits .1 .0;
+      triangleMap = sizes .fits .1 .1 .0;
+    }
+
+    -- it has what it requires after the choice
+    pub writable : {reading : Taken} → ChosenTried asked N (triangles T) T (b .coarse) (b .map) (b .faces) reading
+        → ReadingLent reading N (triangles T) (b .coarse) (b .map) (b .faces) out
+    writable (found {n = n} _ R) = fitting _ (omega (arith, quartered n R))
+    writable (none _) = fitting _ (omega arith)
+
+    -- what is written and answered is what the call does
+    pub concluding : {reading : Taken} {answer : OneAnswer} {out′ : Outputs}
+        → ChosenTried asked N (triangles T) T (b .coarse) (b .map) (b .faces) reading
+        → out′ ≡ leftBy reading N (triangles T) (b .coarse) (b .map) (b .faces) out → answer ≡ answerTo reading
+        → UndoesMesh N T asked out b₀ answer out′
+    unfolding Passed
+    concluding (none refuted) wrote said = without passed refuted said wrote
+    concluding (found {role} {M} {n} chosen R) wrote said =
+        let long : length (take (3 * n) (b .coarse)) ≡ 3 * n =
+        length-take-le _ _ (omega (arith, quartered n R, rooms .coarse .room)) in
+        let size : n ≡ triangles (take (3 * n) (b .coarse)) = omega arith in
+        accepts role (readingIn N (triangles T) M n (b .coarse) (b .map) (b .faces))
+        (passed-both (undoOneSizeRules N (length T) asked (lentToUndoOne N T out (works b₀)))
+        (undoOneMeshRules N T asked) (sizes .passed)
+        (passed-both (meshRules N T) (noReading N T asked ∷ []) passed
+        ((λ place given. chosen-not-refused chosen (given .0)), tt)))
+        chosen R (said ∙ ap (oneAccepted role M) size) wrote refl

@@ -1,0 +1,2 @@
+-- What undo one is lent and does, but for the clearing of its work buffers.
+pub mod Undoing

@@ -1,0 +1,2 @@
+-- What undo several is lent and does, but for the clearing of its work buffers.
+pub mod UndoingSeveral

@@ -1,6 +1,0 @@
--- Laws for the proofs of the functions.
-pub mod Takes
-pub mod RightLines
-pub mod Triangles
-pub mod Verdicts
-pub mod Appends

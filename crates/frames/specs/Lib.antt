@@ -1,6 +1,0 @@
--- What the readers and writers are lent and do, and what their answers say, in theory's words.
-pub mod Parts
-pub mod Given
-pub mod Judging
-pub mod RightLines
-pub mod Putting

@@ -1,0 +1,5 @@
+-- Laws for the proofs of the functions.
+pub mod Takes
+pub mod RightLines
+pub mod Triangles
+pub mod Verdicts

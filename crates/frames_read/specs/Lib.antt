@@ -1,0 +1,5 @@
+-- What the readers are lent and do, and what their answers say, in theory's words.
+pub mod Parts
+pub mod Given
+pub mod Judging
+pub mod RightLines

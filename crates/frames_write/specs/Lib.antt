@@ -1,0 +1,2 @@
+-- What the writers are lent and do.
+pub mod Putting

@@ -1,3 +1,0 @@
--- Laws for the proofs of the functions, and for whoever calls them.
-pub mod Buffers
-pub mod UndoNumbers

@@ -1,0 +1,2 @@
+-- What the table of other half-edges holds.
+pub mod Others

@@ -1,0 +1,162 @@
+-- Document 01, "Meshes to try": "The starred meshes form a single table under a single proved claim." Here are the
+-- rows, what one row claims, and the table. That every row of it holds is `starred-holds` in `proofs/Table`.
+-- To add a row is one line of `starred`.
+use Prim.Native.Nat.{ℕ, zero, suc, _≤_}
+use Prim.Native.Char.{code}
+use Prim.Native.String.{String, len, charAt}
+use mathlib.Core.Path.{_≡_}
+use mathlib.Core.List.{List, [], _∷_, _++_, map}
+use lib.ListN.{length}
+use Rattle.theory.specs.Limits.{anyRole, mostLevels}
+use Rattle.theory.specs.Calls.{Answer, OneAnswer, SeveralAnswer, Outputs, refusal, accepted, oneRefusal, oneAccepted}
+use Rattle.theory.specs.Calls.{severalRefusal, severalAccepted, written, zeros}
+use Rattle.theory.specs.Calls.{lentToSplit, Splits, lentToUndoOne, UndoesOne, lentToUndoSeveral, UndoesSeveral}
+use Rattle.theory.specs.Frames.{FramesAnswer, framesRefusal, framesAccepted, ReadsFrames}
+use Rattle.theory.specs.Demands.{Enough}
+
+-- ---- rows
+
+-- A row: the call with its input, its answer, and the entries that it writes in front of each output buffer (a refusal
+-- writes none). Reading also says for how many entries there must be room.
+pub data Row : Type 0 where
+  splits : (N : ℕ) (T : List ℕ) (answer : Answer) (new : List ℕ) → Row
+  undoesOne : (N : ℕ) (T : List ℕ) (asked : ℕ) (answer : OneAnswer) (new : Outputs) → Row
+  undoesSeveral : (N : ℕ) (T : List ℕ) (asked : ℕ) (answer : SeveralAnswer) (new : List ℕ) → Row
+  reads : (room : ℕ) (bytes : List ℕ) (answer : FramesAnswer) (new : List ℕ) → Row
+
+-- What a refusal of undo one writes.
+abbrev pub nothingWritten : Outputs
+nothingWritten = record { mesh = []; vertexMap = []; triangleMap = [] }
+
+-- The three output buffers of undo one with what is written in front.
+abbrev pub writtenOutputs : Outputs → Outputs → Outputs
+writtenOutputs new out = record {
+  mesh = written (new .mesh) (out .mesh);
+  vertexMap = written (new .vertexMap) (out .vertexMap);
+  triangleMap = written (new .triangleMap) (out .triangleMap);
+}
+
+-- ---- what a row claims
+
+-- The row's result satisfies the call's promise on the row's input, whatever stands in the lent buffers and however
+-- many work buffers there are, where room enough is lent.
+unfoldable pub Satisfied : Row → Type 0
+Satisfied (splits N T answer new) =
+    (out : List ℕ) (works : List (List ℕ)) → Enough (lentToSplit N T out works)
+    → Splits N T out works answer (written new out) (map zeros works)
+Satisfied (undoesOne N T asked answer new) =
+    (out : Outputs) (works : List (List ℕ)) → Enough (lentToUndoOne N T out works)
+    → UndoesOne N T asked out works answer (writtenOutputs new out) (map zeros works)
+Satisfied (undoesSeveral N T asked answer new) =
+    (out : List ℕ) (works : List (List ℕ)) → Enough (lentToUndoSeveral N T out works)
+    → UndoesSeveral N T asked out works answer (written new out) (map zeros works)
+Satisfied (reads room bytes answer new) =
+    (out : List ℕ) → room ≤ length out → ReadsFrames bytes out answer (written new out)
+
+-- Every result that satisfies the call's promise on the row's input, where room enough is lent, is the row's.
+unfoldable pub Only : Row → Type 0
+Only (splits N T answer new) =
+    (out : List ℕ) (works : List (List ℕ)) → Enough (lentToSplit N T out works)
+    → (a : Answer) (o : List ℕ) (w : List (List ℕ)) → Splits N T out works a o w
+    → (a ≡ answer) × (o ≡ written new out) × (w ≡ map zeros works)
+Only (undoesOne N T asked answer new) =
+    (out : Outputs) (works : List (List ℕ)) → Enough (lentToUndoOne N T out works)
+    → (a : OneAnswer) (o : Outputs) (w : List (List ℕ)) → UndoesOne N T asked out works a o w
+    → (a ≡ answer) × (o ≡ writtenOutputs new out) × (w ≡ map zeros works)
+Only (undoesSeveral N T asked answer new) =
+    (out : List ℕ) (works : List (List ℕ)) → Enough (lentToUndoSeveral N T out works)
+    → (a : SeveralAnswer) (o : List ℕ) (w : List (List ℕ)) → UndoesSeveral N T asked out works a o w
+    → (a ≡ answer) × (o ≡ written new out) × (w ≡ map zeros works)
+Only (reads room bytes answer new) =
+    (out : List ℕ) → room ≤ length out → (a : FramesAnswer) (o : List ℕ) → ReadsFrames bytes out a o
+    → (a ≡ answer) × (o ≡ written new out)
+
+-- What a row claims: its result is what the call's promise allows on the row's input, and all that it allows.
+pub record Holds (row : Row) : Type 0 where
+  pub satisfied : Satisfied row
+  pub only : Only row
+
+-- ---- what rows are made of
+
+-- Three rows: split, undo one (asked 4) and undo several (asked 7) each give this refusal at this place.
+abbrev pub eachRefuses : ℕ → List ℕ → ℕ → ℕ → List Row
+eachRefuses N T number place =
+    splits N T (refusal number place) []
+    ∷ undoesOne N T anyRole (oneRefusal number place) nothingWritten
+    ∷ undoesSeveral N T mostLevels (severalRefusal number place) []
+    ∷ []
+
+-- n bytes of a text from place i on; the texts here have one byte a character.
+unfoldable pub bytesFrom : String → ℕ → ℕ → List ℕ
+bytesFrom text i zero = []
+bytesFrom text i (suc n) = code (charAt text i) ∷ bytesFrom text (suc i) n
+
+-- A text and LF, as bytes.
+unfoldable pub textLine : String → List ℕ
+unfolding bytesFrom
+textLine text = bytesFrom text 0 (len text) ++ (10 ∷ [])
+
+-- The sample input, as bytes.
+unfoldable pub sampleBytes : List ℕ
+unfolding textLine
+sampleBytes =
+    textLine "4D00060004" ++ textLine "46000500000003" ++ textLine "46000400010000"
+    ++ textLine "46000300000001" ++ textLine "46000200030001"
+
+-- The sample's mesh.
+abbrev pub sample : List ℕ
+sample = 5 ∷ 0 ∷ 3 ∷ 4 ∷ 1 ∷ 0 ∷ 3 ∷ 0 ∷ 1 ∷ 2 ∷ 3 ∷ 1 ∷ []
+
+-- The reading of the sample as it is shown: the coarse mesh, the vertex map, the triangle map.
+abbrev pub sampleShown : Outputs
+sampleShown = record {
+  mesh = 0 ∷ 2 ∷ 1 ∷ [];
+  vertexMap = 4 ∷ 5 ∷ 0 ∷ 3 ∷ 1 ∷ 2 ∷ [];
+  triangleMap = 2 ∷ 3 ∷ 0 ∷ 1 ∷ [];
+}
+
+-- Three triangles on the edge 0-1.
+abbrev pub fin : List ℕ
+fin = 0 ∷ 1 ∷ 2 ∷ 0 ∷ 1 ∷ 3 ∷ 0 ∷ 1 ∷ 4 ∷ []
+
+-- What it becomes, four triangles a line: the edges are 0-1 (vertex 5), 1-2 (6), 2-0 (7), 1-3 (8), 3-0 (9), 1-4 (10),
+-- 4-0 (11).
+abbrev pub finSplit : List ℕ
+finSplit =
+    5 ∷ 6 ∷ 7 ∷ 0 ∷ 5 ∷ 7 ∷ 1 ∷ 6 ∷ 5 ∷ 2 ∷ 7 ∷ 6
+    ∷ 5 ∷ 8 ∷ 9 ∷ 0 ∷ 5 ∷ 9 ∷ 1 ∷ 8 ∷ 5 ∷ 3 ∷ 9 ∷ 8
+    ∷ 5 ∷ 10 ∷ 11 ∷ 0 ∷ 5 ∷ 11 ∷ 1 ∷ 10 ∷ 5 ∷ 4 ∷ 11 ∷ 10
+    ∷ []
+
+-- ---- the table
+
+-- The starred meshes, each under document 01's words for it.
+unfoldable pub starred : List Row
+unfolding sampleBytes
+starred =
+    -- "One triangle (0,1,2) splits to (3,4,5), (0,3,5), (1,4,3), (2,5,4)."
+    splits 3 (0 ∷ 1 ∷ 2 ∷ []) (accepted 6 4) (3 ∷ 4 ∷ 5 ∷ 0 ∷ 3 ∷ 5 ∷ 1 ∷ 4 ∷ 3 ∷ 2 ∷ 5 ∷ 4 ∷ [])
+    -- "The input above has the reading shown, in role 1."
+    ∷ reads 12 sampleBytes (framesAccepted 6 4) sample
+    ∷ undoesOne 6 sample 0 (oneRefusal 11 0) nothingWritten
+    ∷ undoesOne 6 sample 1 (oneAccepted 1 3 1) sampleShown
+    ∷ undoesOne 6 sample 2 (oneRefusal 11 0) nothingWritten
+    ∷ undoesOne 6 sample 3 (oneRefusal 11 0) nothingWritten
+    ∷ undoesOne 6 sample anyRole (oneAccepted 1 3 1) sampleShown
+    ∷ undoesSeveral 6 sample 1 (severalAccepted 1 (1 ∷ []) 3 1) (0 ∷ 2 ∷ 1 ∷ [])
+    ∷ undoesSeveral 6 sample mostLevels (severalAccepted 1 (1 ∷ []) 3 1) (0 ∷ 2 ∷ 1 ∷ [])
+    -- "Three triangles on the edge 0-1, third corners 2, 3, 4: splits to 12 vertices, 12 triangles."
+    ∷ splits 5 fin (accepted 12 12) finSplit
+    -- ""4D00000000" and LF: reads as V = 0, F = 0. Empty bytes: 12, place 0."
+    ∷ reads 0 (textLine "4D00000000") (framesAccepted 0 0) []
+    ∷ reads 0 [] (framesRefusal 12 0) []
+    -- "(0,1,2), (0,2,1), V = 3: refusal 8, place 1."
+    ∷ eachRefuses 3 (0 ∷ 1 ∷ 2 ∷ 0 ∷ 2 ∷ 1 ∷ []) 8 1
+    -- "(0,1,2), (0,3,4), V = 5: touch at a point; 10, place 1."
+    ++ eachRefuses 5 (0 ∷ 1 ∷ 2 ∷ 0 ∷ 3 ∷ 4 ∷ []) 10 1
+    -- "(0,1,2), V = 4: 9, place 3."
+    ++ eachRefuses 4 (0 ∷ 1 ∷ 2 ∷ []) 9 3
+    -- "V = 2: 6, place 0."
+    ++ eachRefuses 2 (0 ∷ 1 ∷ 2 ∷ []) 6 0
+    -- "(0,0,1), V = 2: 7, place 0."
+    ++ eachRefuses 2 (0 ∷ 0 ∷ 1 ∷ []) 7 0

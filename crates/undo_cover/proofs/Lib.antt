@@ -1,0 +1,4 @@
+-- Laws for the proofs of the functions, and for whoever calls them.
+pub mod Starts
+pub mod Covers
+pub mod Covered

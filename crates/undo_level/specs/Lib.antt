@@ -1,0 +1,2 @@
+-- What one level is lent, and what it comes to.
+pub mod Level

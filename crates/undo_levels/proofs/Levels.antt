@@ -1,0 +1,144 @@
+-- What the calls of `undo_levels` are lent, and that a level undone and the levels of the coarser mesh make document
+-- 01's levels.
+use Prim.Native.Nat.{ℕ, suc, _+_, _-_, _*_, _≤_, _<_}
+use native.Mathlib.Omega.{arith}
+use native.Mathlib.Numerals.{add-one}
+use mathlib.Core.Path.{_≡_, refl, sym, ap, subst, _∙_}
+use mathlib.Core.Logic.{_≢_}
+use mathlib.Core.List.{List, [], _∷_, _++_}
+use lib.ListN.{length, take, drop}
+use Rattle.theory.specs.Limits.{mostLevels}
+use Rattle.theory.specs.Mesh.{Same}
+use Rattle.theory.specs.Splitting.{firstOn}
+use Rattle.theory.specs.Choice.{NoRole, Several, reached, stopped, undone}
+use Rattle.theory.proofs.Results.{several-at-most}
+use Rattle.answers.specs.declared.taken.Taken.the-variants as taken
+use Rattle.answers.specs.declared.levels.Levels.{Levels}
+use Rattle.answers.specs.Levels.{StopLent, MoreLent, noLevel, oneMore}
+use Rattle.answers.proofs.Places.{places-long, places-more}
+use Rattle.mesh_rings.specs.Ring.{RingBy}
+use Rattle.undo_role.specs.Buffers.{Buffers, buffers}
+use Rattle.mesh_rings.proofs.Tables.{work-kept}
+use Rattle.undo_role.proofs.Rooms.{SameLengths}
+use Rattle.undo_level.specs.Level.{LevelLent, Coarser, LevelTried, found, none}
+use Rattle.undo_level.proofs.Level.{coarser-role, level-smaller, level-undoable, level-rooms}
+use Rattle.undo_levels.specs.Levels.{LevelsLent, LevelsUndone}
+
+-- ---- levels
+
+-- where a reading is taken there is a coarser mesh
+pub tried-coarser : {N F : ℕ} {T coarse ring : List ℕ} {role M n : ℕ}
+    → LevelTried N F T coarse ring (taken.Reading role M n) → Coarser N F T coarse role M n
+tried-coarser (found C R) = C
+
+-- with the rings of its edges
+tried-rings : {N F : ℕ} {T coarse ring : List ℕ} {role M n : ℕ}
+    → LevelTried N F T coarse ring (taken.Reading role M n) → RingBy (3 * n) (firstOn (take (3 * n) coarse)) ring
+tried-rings (found C R) = R
+
+-- where nothing is taken, no role has a reading
+tried-none : {N F : ℕ} {T coarse ring : List ℕ} → LevelTried N F T coarse ring taken.Nothing → NoRole Same N T
+tried-none (none no-role) = no-role
+
+-- ---- one level more
+
+-- what `one_more` is lent
+pub levels-more : {allowance N F M n role : ℕ} {T T′ coarse out out′ : List ℕ} {rest : Levels}
+    → Coarser N F T coarse role M n → allowance < mostLevels → LevelsUndone allowance M T′ out out′ rest
+    → MoreLent role rest
+levels-more C few U = record {
+  isRole = coarser-role C;
+  few = omega (arith, several-at-most (U .several));
+  places = ap length (U .places) ∙ places-long (U .roles);
+}
+
+-- a level and those of the coarser mesh, with one level less, are all levels
+pub levels-undone : {allowance N F role M n : ℕ} {T coarse out out′ : List ℕ} {rest answer : Levels} → allowance ≢ 0
+    → Coarser N F T coarse role M n → LevelsUndone (allowance - 1) M (take (3 * n) coarse) out out′ rest
+    → answer ≡ oneMore role rest → LevelsUndone allowance N T out out′ answer
+levels-undone {allowance} {role = role} {rest = rest} more C U e =
+    let one-up : allowance ≡ suc (allowance - 1) = omega arith in
+    subst (LevelsUndone allowance _ _ _ _) (sym e)
+    (record {
+      roles = role ∷ U .roles;
+      mesh = U .mesh;
+      several = rw (one-up, add-one (rest .levels)) (undone _ (C .least) (C .returned) (U .several));
+      count = U .count;
+      places = places-more role (U .roles) (U .places);
+      left = U .left;
+    })
+
+-- ---- the calls
+
+module _ {allowance N F : ℕ} {list out : List ℕ} {b : Buffers} (L : LevelsLent allowance N F list out b) where
+  -- what `stop` is lent
+  pub levels-stop : StopLent F list out
+  levels-stop = record {
+    halves = L .level .mesh .halves;
+    listed = omega (arith, L .listRoom .room);
+    room = L .outRoom;
+  }
+
+  -- what `undo_least` is lent
+  pub levels-level : LevelLent N F (take (3 * F) list) b
+  levels-level = record { level = L .level; rooms = L .rooms }
+
+  -- ---- no level
+
+  -- what is left where no level is undone
+  levels-left : {out′ : List ℕ} {answer : Levels}
+      → Several allowance N (take (3 * F) list) 0 [] N (take (3 * F) list) → answer ≡ noLevel N F
+      → out′ ≡ take (3 * F) list ++ drop (3 * F) out → LevelsUndone allowance N (take (3 * F) list) out out′ answer
+  levels-left S e wrote =
+      subst (LevelsUndone allowance N (take (3 * F) list) out _) (sym e)
+      (record {
+        roles = [];
+        mesh = take (3 * F) list;
+        several = S;
+        count = omega (arith, L .level .mesh .whole);
+        places = refl;
+        left = wrote ∙ ap (λ k. take (3 * F) list ++ drop k out) (sym (L .level .mesh .whole));
+      })
+
+  -- none is allowed
+  pub levels-reached : {out′ : List ℕ} {answer : Levels} → allowance ≡ 0 → answer ≡ noLevel N F
+      → out′ ≡ take (3 * F) list ++ drop (3 * F) out → LevelsUndone allowance N (take (3 * F) list) out out′ answer
+  levels-reached z = levels-left (rw z reached)
+
+  -- no role has a reading
+  pub levels-stopped : {coarse′ ring′ out′ : List ℕ} {answer : Levels} → allowance ≢ 0
+      → LevelTried N F (take (3 * F) list) coarse′ ring′ taken.Nothing → answer ≡ noLevel N F
+      → out′ ≡ take (3 * F) list ++ drop (3 * F) out → LevelsUndone allowance N (take (3 * F) list) out out′ answer
+  levels-stopped more tried =
+      let one-up : allowance ≡ suc (allowance - 1) = omega arith in
+      levels-left (rw one-up (stopped (tried-none tried)))
+
+  -- ---- the next level
+
+  -- what the levels of the coarser mesh are lent, the list and the coarser mesh having changed places
+  pub levels-lent : {allowance′ role M n : ℕ} {b′ : Buffers} → allowance′ ≤ mostLevels → SameLengths b b′
+      → LevelTried N F (take (3 * F) list) (b′ .coarse) (b′ .ring) (taken.Reading role M n)
+      → LevelsLent allowance′ M n (b′ .coarse) out
+      (buffers (b′ .other) (b′ .rows) (b′ .ring) (b′ .marks) list (b′ .numbers) (b′ .map) (b′ .faces) (b′ .table))
+  levels-lent {M = M} {n = n} few K tried =
+      let C = tried-coarser tried in
+      let S = level-smaller levels-level K C in
+      let R = level-rooms levels-level K C in
+      let l : M + 3 * n ≤ N + 3 * F = omega (arith, S .fewer, S .fourth) in
+      record {
+        few = few;
+        level = record { mesh = level-undoable levels-level K C; ringed = tried-rings tried };
+        listRoom = R .coarse;
+        outRoom = omega (arith, L .outRoom, S .fourth);
+        rooms = record {
+          other = R .other;
+          rows = R .rows;
+          ring = R .ring;
+          marks = R .marks;
+          coarse = work-kept l (L .listRoom) refl;
+          numbers = R .numbers;
+          map = R .map;
+          faces = R .faces;
+          table = R .table;
+        };
+      }

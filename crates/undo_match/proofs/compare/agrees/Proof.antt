@@ -1,0 +1,149 @@
+-- `undo_match::compare::agrees` meets its contract: the vertices at the corners of a renamed triangle are the new names
+-- of those that stood there.
+use Prim.Native.Nat.{ℕ, _+_, _*_, _≤_, _<_}
+use native.Mathlib.Omega.{arith}
+use mathlib.Core.Path.{_≡_}
+use mathlib.Core.Bool.{Bool}
+use mathlib.Core.List.{List}
+use lib.ListN.{length}
+use borrow.Author.Needs.{needs}
+use Rattle.theory.specs.Mesh.{at, Same}
+use Rattle.theory.specs.Reading.{renamed}
+use Rattle.theory.proofs.Renaming.{renamed-at, renamed-length}
+use Rattle.lists.specs.Decides.{Decides}
+use Rattle.undo_match.specs.Compared.{AgreesLent, SameThree}
+use Rattle.lists.proofs.Decides.{decides-moved}
+use Rattle.undo_match.proofs.Threes.{three-same, same-three}
+use Rattle.undo_match.proofs.compare.agrees.Statement.{statement}
+use Rattle.undo_match.proofs.compare.agrees.Tie as tie
+
+-- what is found of the new names of the three vertices holds of the renamed triangle
+agreed : (f T S : List ℕ) (k t : ℕ) {i j h : ℕ} {answer : Bool} → AgreesLent k T f t S
+    → i ≡ at T (3 * k) → j ≡ at T (3 * k + 1) → h ≡ at T (3 * k + 2)
+    → Decides (SameThree (at f i) (at f j) (at f h) (at S (3 * t)) (at S (3 * t + 1)) (at S (3 * t + 2))) answer
+    → Decides (Same (renamed f T) k S t) answer
+agreed f T S k t lent p q r D =
+    let l : 3 * k + 3 ≤ length (renamed f T) = omega (arith, lent .listed, renamed-length f T) in
+    decides-moved (three-same (renamed f T) S k t l (lent .inside)) (same-three (renamed f T) S k t l (lent .inside))
+    (rw (name (3 * k) (omega arith), name (3 * k + 1) (omega arith), name (3 * k + 2) (omega arith), ← p, ← q, ← r) D)
+  where
+    name : (c : ℕ) → c < 3 * k + 3 → at (renamed f T) c ≡ at f (at T c)
+    name c l = renamed-at f T c (omega (arith, lent .listed))
+
+mul-at : tie.Need-mul-at
+mul-at c = search needs
+
+at-requires : tie.Need-at-requires
+at-requires c κs = search needs
+
+mul-a : tie.Need-mul-a
+mul-a c = search needs
+
+shared-slice-read-a : tie.Need-shared-slice-read-a
+shared-slice-read-a c = search needs
+
+mul-at-2 : tie.Need-mul-at-2
+mul-at-2 c = search needs
+
+add-at : tie.Need-add-at
+add-at c = search needs
+
+at-requires-2 : tie.Need-at-requires-2
+at-requires-2 c κs = search needs
+
+mul-b : tie.Need-mul-b
+mul-b c = search needs
+
+shared-slice-read-b : tie.Need-shared-slice-read-b
+shared-slice-read-b c = search needs
+
+mul-at-3 : tie.Need-mul-at-3
+mul-at-3 c = search needs
+
+add-at-2 : tie.Need-add-at-2
+add-at-2 c = search needs
+
+at-requires-3 : tie.Need-at-requires-3
+at-requires-3 c κs = search needs
+
+mul-c : tie.Need-mul-c
+mul-c c = search needs
+
+shared-slice-read-c : tie.Need-shared-slice-read-c
+shared-slice-read-c c = search needs
+
+mul-same-vertices : tie.Need-mul-same-vertices
+mul-same-vertices c = search needs
+
+mul-same-vertices-2 : tie.Need-mul-same-vertices-2
+mul-same-vertices-2 c = search needs
+
+shared-slice-read-same-vertices : tie.Need-shared-slice-read-same-vertices
+shared-slice-read-same-vertices c = search needs
+
+mul-same-vertices-3 : tie.Need-mul-same-vertices-3
+mul-same-vertices-3 c = search needs
+
+add-same-vertices : tie.Need-add-same-vertices
+add-same-vertices c = search needs
+
+mul-same-vertices-4 : tie.Need-mul-same-vertices-4
+mul-same-vertices-4 c = search needs
+
+shared-slice-read-same-vertices-2 : tie.Need-shared-slice-read-same-vertices-2
+shared-slice-read-same-vertices-2 c = search needs
+
+mul-same-vertices-5 : tie.Need-mul-same-vertices-5
+mul-same-vertices-5 c = search needs
+
+add-same-vertices-2 : tie.Need-add-same-vertices-2
+add-same-vertices-2 c = search needs
+
+mul-same-vertices-6 : tie.Need-mul-same-vertices-6
+mul-same-vertices-6 c = search needs
+
+shared-slice-read-same-vertices-3 : tie.Need-shared-slice-read-same-vertices-3
+shared-slice-read-same-vertices-3 c = search needs
+
+same-vertices-requires : tie.Need-same-vertices-requires
+same-vertices-requires c κs = search needs
+
+returns : tie.Need-returns
+returns c =
+    let third = c .before .before .before .before .before in
+    let second = third .before .before in
+    let first = second .before .before in
+    agreed _ _ _ _ _ (first .before .before .before .before .pre) (first .at .ensures) (second .at2 .ensures)
+    (third .at3 .ensures) (c .same-vertices .ensures)
+
+pub agrees-spec : {M : Type 1} → statement M
+agrees-spec =
+    tie.close
+    (tie.spec
+    mul-at
+    at-requires
+    mul-a
+    shared-slice-read-a
+    mul-at-2
+    add-at
+    at-requires-2
+    mul-b
+    shared-slice-read-b
+    mul-at-3
+    add-at-2
+    at-requires-3
+    mul-c
+    shared-slice-read-c
+    mul-same-vertices
+    mul-same-vertices-2
+    shared-slice-read-same-vertices
+    mul-same-vertices-3
+    add-same-vertices
+    mul-same-vertices-4
+    shared-slice-read-same-vertices-2
+    mul-same-vertices-5
+    add-same-vertices-2
+    mul-same-vertices-6
+    shared-slice-read-same-vertices-3
+    same-vertices-requires
+    returns)

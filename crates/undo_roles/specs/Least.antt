@@ -1,0 +1,16 @@
+-- The least role that has a reading, by the tables: what trying the roles comes to.
+use Prim.Native.Nat.{ℕ}
+use mathlib.Core.List.{List}
+use Rattle.theory.specs.Mesh.{Same}
+use Rattle.theory.specs.Reading.{Returned}
+use Rattle.theory.specs.Choice.{LeastRole, NoRole}
+use Rattle.answers.specs.declared.taken.Taken.{Taken}
+use Rattle.answers.specs.declared.taken.Taken.the-variants as taken
+use Rattle.answers.specs.Taken.{readingIn}
+
+-- The role is the least that has a reading, and the returned one, with M vertices and n triangles, stands in the
+-- buffers; or no role has a reading.
+pub data LeastTried (N F : ℕ) (T coarse map faces : List ℕ) : Taken → Type 0 where
+  found : {role M n : ℕ} → LeastRole Same N T role → Returned Same N T role (readingIn N F M n coarse map faces)
+      → LeastTried N F T coarse map faces (taken.Reading role M n)
+  none : NoRole Same N T → LeastTried N F T coarse map faces taken.Nothing

@@ -1,0 +1,2 @@
+-- What reading standard input is held to.
+pub mod Reading
