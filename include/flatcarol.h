@@ -1,9 +1,9 @@
 /*
  * Flatcarol: splits a triangle mesh, and recognises and undoes such a split, one level or several.
  *
- * The five calls of libflatcarol.a, for C99 and later and C++11 and later. In the repository docs/CALLS.md has a page
- * on each with an example, and examples/c/ a whole program. What the archive's functions promise is proved; this header
- * is outside of every proof, and is tested.
+ * The five calls of libflatcarol.a, for C99 and later and C++11 and later, on x86-64 Linux and on 64-bit Arm Linux. In
+ * the repository docs/CALLS.md has a page on each with an example, and examples/c/ a whole program. What the archive's
+ * functions promise is proved; this header is outside of every proof, and is tested.
  *
  * A mesh is a number of vertices V and a list of 3F entries: triangle k has the corners list[3k], list[3k + 1] and
  * list[3k + 2], each a vertex number below V. There are no positions.
@@ -30,8 +30,8 @@
 #include <stdint.h>
 
 /* Elsewhere the archive does not link, or would be called by another convention than its own. */
-#if !defined(__linux__) || !defined(__x86_64__) || !defined(__LP64__)
-#error "libflatcarol.a is compiled for x86-64 Linux with 64-bit pointers, and for nothing else"
+#if !defined(__linux__) || !defined(__LP64__) || !(defined(__x86_64__) || defined(__AARCH64EL__))
+#error "libflatcarol.a is compiled for Linux with 64-bit pointers on x86-64 and little-endian Arm, and for nothing else"
 #endif
 
 #ifdef __cplusplus

@@ -1,22 +1,24 @@
-// Links the library's archive for this machine, and has it made where it is missing.
+// Links the library's archive for the processor that the app is built for, and has it made where it is missing.
 use std::env;
-use std::fs;
+use std::fs::{self, File, OpenOptions};
+use std::io::{BufRead, BufReader, Read, Write};
 use std::path::{Path, PathBuf};
-use std::process::{exit, Command, Output};
+use std::process::{exit, Command, ExitStatus, Stdio};
 use std::time::SystemTime;
 
-const ARCHIVE: &str = "target/native/libflatcarol.a";
-const MAKE: &str = "rust/archive";
+const ARCHIVES: &str = "target/app/lib";
+const MAKE: &str = "build-for-apps";
 const PROCESSORS: [&str; 2] = ["x86_64", "aarch64"];
 
 fn main() {
     let root = PathBuf::from(variable("CARGO_MANIFEST_DIR")).join("..");
     let root = root.canonicalize().unwrap_or(root);
-    let archive = root.join(ARCHIVE);
+    let (system, processor) = (variable("CARGO_CFG_TARGET_OS"), variable("CARGO_CFG_TARGET_ARCH"));
+    let folder = root.join(ARCHIVES).join(&processor);
+    let archive = folder.join("libflatcarol.a");
     println!("cargo:rerun-if-changed={}", archive.display());
     println!("cargo:rerun-if-changed={}", root.join("crates").display());
 
-    let (system, processor) = (variable("CARGO_CFG_TARGET_OS"), variable("CARGO_CFG_TARGET_ARCH"));
     if system != "linux" || !PROCESSORS.contains(&processor.as_str()) {
         fail(&format!(
             "this app is built for {system} on {processor}, and the library is for Linux on {}.",
@@ -27,39 +29,61 @@ fn main() {
         make(&root, &archive, &processor);
     }
     if changed(&root.join("crates")) > changed(&archive) {
-        println!("cargo:warning={ARCHIVE} is older than crates/: run '{MAKE}' to link the code as it stands");
+        println!("cargo:warning={} is older than crates/: run '{MAKE}' to link the code as it stands", archive.display());
     }
-    println!("cargo:rustc-link-search=native={}", archive.parent().unwrap().display());
+    println!("cargo:rustc-link-search=native={}", folder.display());
     println!("cargo:rustc-link-lib=static=flatcarol");
 }
 
 // Proves the library and writes its archive, or says what is missing for that.
 fn make(root: &Path, archive: &Path, processor: &str) {
     let missing = format!("the library's archive is not there yet: {}\n", archive.display());
-    let copy = format!("copy libflatcarol.a to that place from a machine that has made it ('{MAKE}') on {processor}.");
-    if processor != env::consts::ARCH {
-        let here = env::consts::ARCH;
+    if !in_path("rt") {
         fail(&format!(
-            "{missing}The Rattle kit makes it for the processor that it runs on, here {here}. To build for {processor}, {copy}"
+            "{missing}To make it takes the Rattle kit, whose command 'rt' is not in PATH. Install the kit, or copy libflatcarol.a to that \
+             place from a machine that has made it ('{MAKE} {processor}')."
         ));
     }
-    if !in_path("rt") {
-        fail(&format!("{missing}To make it takes the Rattle kit, whose command 'rt' is not in PATH. Install the kit, or {copy}"));
-    }
-    match Command::new(root.join(MAKE)).output() {
-        Err(error) => fail(&format!("{missing}'{MAKE}', which makes it, did not start: {error}")),
-        Ok(run) if !run.status.success() => fail(&format!("{missing}{}", why(&run))),
+    let mut command = Command::new(root.join(MAKE));
+    command.arg(processor).stdin(Stdio::null()).stdout(Stdio::null()).stderr(Stdio::piped());
+    let mut run =
+        command.spawn().unwrap_or_else(|error| fail(&format!("{missing}'{MAKE}', which makes it, did not start: {error}")));
+    let said = run.stderr.take().map(pass_on).unwrap_or_default();
+    match run.wait() {
+        Err(error) => fail(&format!("{missing}'{MAKE}', which makes it, was lost: {error}")),
+        Ok(status) if !status.success() => fail(&format!("{missing}{}", why(status, &said))),
         Ok(_) if !archive.exists() => fail(&format!("{missing}'{MAKE}' ended well and did not write it.")),
         Ok(_) => {}
     }
 }
 
-// Why the archive was not made, by what the script and rt printed. It is caught and not passed on, as cargo reads a build script's
-// standard output.
-fn why(run: &Output) -> String {
-    let said = String::from_utf8_lossy(&[&run.stdout[..], &run.stderr[..]].concat()).into_owned();
+// Passes on what the script says while it says it, since it may prove for minutes: to standard error, which cargo keeps to itself
+// unless it is asked for more (-vv) or the build fails, and to the terminal, if there is one, as a line that renews itself.
+fn pass_on(script: impl Read) -> String {
+    let mut terminal = OpenOptions::new().write(true).open("/dev/tty").ok();
+    let mut said = String::new();
+    for line in BufReader::new(script).lines().map_while(Result::ok) {
+        eprintln!("{line}");
+        renew(&mut terminal, &line);
+        said.push_str(&line);
+        said.push('\n');
+    }
+    renew(&mut terminal, "");
+    said
+}
+
+// Nothing depends on whether the terminal shows it.
+fn renew(terminal: &mut Option<File>, line: &str) {
+    if let Some(terminal) = terminal {
+        let _ = write!(terminal, "\r\x1b[K{line}").and_then(|()| terminal.flush());
+    }
+}
+
+// Why the archive was not made, by what the script said.
+fn why(status: ExitStatus, said: &str) -> String {
     // Errors, and rt's own lines, but for those on what follows from another line.
-    let tells = |line: &&str| line.contains(" error: ") || line.starts_with("rt: ") && !line.contains("its dependency");
+    let error = |line: &str| line.contains(" error: ") || line.contains(" error[");
+    let tells = |line: &&str| error(line) || line.starts_with("rt: ") && !line.contains("its dependency");
     let telling: Vec<&str> = said.lines().filter(tells).collect();
     let reason = if said.contains("NOT PROVED") {
         "It is made of proved code only, and the code below crates/ as it stands is not proved. If you changed nothing there, \
@@ -67,8 +91,8 @@ fn why(run: &Output) -> String {
     } else {
         "To make it was tried, and failed."
     };
-    let shown = if telling.is_empty() { said } else { telling.join("\n") };
-    format!("{reason}\n'{MAKE}' ended ({}) and said (target/log has more):\n{shown}", run.status)
+    let shown = if telling.is_empty() { said.to_string() } else { telling.join("\n") };
+    format!("{reason}\n'{MAKE}' ended ({status}) and said (target/log has more):\n{shown}")
 }
 
 fn in_path(command: &str) -> bool {

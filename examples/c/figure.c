@@ -2,7 +2,8 @@
  * A figure leaves for an app as a fine mesh and comes back: the five calls of Flatcarol, one after the other.
  *
  *     ./build-for-apps
- *     cc examples/c/figure.c -Itarget/app/include -Ltarget/app/lib -lflatcarol -o target/figure && target/figure
+ *     cc examples/c/figure.c -Itarget/app/include -Ltarget/app/lib/$(uname -m) -lflatcarol -o target/figure
+ *     target/figure
  *
  * It prints figure.out. It is C99 and C++17.
  */

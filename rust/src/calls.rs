@@ -55,12 +55,13 @@ pub enum Asked {
 }
 
 impl Asked {
-    // Document 01's number: 4 asks for the least role, and all above it is refused.
+    // Document 01's number: 4 asks for the least role, and all above it is refused. What is no role is sent as the greatest number,
+    // since one just above those that are taken today may come to mean something.
     fn number(self) -> u64 {
         match self {
             Asked::Role(role @ 0..=3) => u64::from(role),
             Asked::Least => 4,
-            Asked::Role(_) => 5,
+            Asked::Role(_) => u64::MAX,
         }
     }
 }
@@ -219,4 +220,21 @@ fn counts(refusal: u64, place: u64, vertices: u64, triangles: u64) -> Result<Cou
     }
     // The library is proved to give no number but these, so this panics only if something else is linked in its place.
     Err(Refusal::from_number(refusal, place as usize).expect("the linked library gives document 01's numbers"))
+}
+
+#[cfg(test)]
+mod tests {
+    use super::Asked;
+
+    // A role above 3 is sent as a number that no call takes, today or later: not as 4, which asks for the least role, nor as one near it.
+    #[test]
+    fn what_is_no_role_is_sent_as_no_number_that_is_taken() {
+        for role in 0..=3 {
+            assert_eq!(Asked::Role(role).number(), u64::from(role));
+        }
+        for role in 4..=u8::MAX {
+            assert_eq!(Asked::Role(role).number(), u64::MAX, "role {role}");
+        }
+        assert_eq!(Asked::Least.number(), 4);
+    }
 }

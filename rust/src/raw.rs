@@ -51,12 +51,12 @@ pub const SPLIT_WORK: usize = 5;
 pub const ONE_WORK: usize = 9;
 pub const SEVERAL_WORK: usize = 10;
 
-// Declares C functions. Behind the other arguments of each stand the buffers that it writes and the type of their entries: each is
+// Declares C functions. After the other arguments of each stand the buffers that it writes and the type of their entries: each is
 // an address and a length in entries.
 macro_rules! declare {
-    ($($call:ident($($argument:ident: $type:ty),*; $entry:ty: $($buffer:ident),*);)*) => {
+    ($($call:ident($($argument:ident: $type:ty),*; $entry:ty: $($buffer:ident),*) -> $answer:ty;)*) => {
         extern "C" {
-            $(fn $call($($argument: $type,)* $($buffer: *mut $entry, _: usize),*);)*
+            $(fn $call($($argument: $type,)* $($buffer: *mut $entry, _: usize),*) -> $answer;)*
         }
     };
 }
@@ -68,67 +68,54 @@ macro_rules! lend {
     };
 }
 
-// An answer is returned in memory, whose address goes before the other arguments: x86-64's convention has it so for a struct of
-// this size, and so has the archive that `rust/archive` makes for Arm, where C's own convention would have the address in a register
-// of its own.
 declare! {
-    flatcarol_split(answer: *mut Answer, vertices: u64, list: *const u16, list_len: usize;
-        u16: out, work1, work2, work3, work4, work5);
-    flatcarol_undo_one(answer: *mut OneAnswer, vertices: u64, list: *const u16, list_len: usize, asked: u64;
-        u16: mesh, vertex_map, triangle_map, work1, work2, work3, work4, work5, work6, work7, work8, work9);
-    flatcarol_undo_several(answer: *mut SeveralAnswer, vertices: u64, list: *const u16, list_len: usize, asked: u64;
-        u16: out, work1, work2, work3, work4, work5, work6, work7, work8, work9, work10);
-    flatcarol_read_frames(answer: *mut Answer, bytes: *const u8, bytes_len: usize; u16: out);
-    flatcarol_write_frames(answer: *mut Answer, vertices: u64, list: *const u16, list_len: usize; u8: out);
+    flatcarol_split(vertices: u64, list: *const u16, list_len: usize;
+        u16: out, work1, work2, work3, work4, work5) -> Answer;
+    flatcarol_undo_one(vertices: u64, list: *const u16, list_len: usize, asked: u64;
+        u16: mesh, vertex_map, triangle_map, work1, work2, work3, work4, work5, work6, work7, work8, work9) -> OneAnswer;
+    flatcarol_undo_several(vertices: u64, list: *const u16, list_len: usize, asked: u64;
+        u16: out, work1, work2, work3, work4, work5, work6, work7, work8, work9, work10) -> SeveralAnswer;
+    flatcarol_read_frames(bytes: *const u8, bytes_len: usize; u16: out) -> Answer;
+    flatcarol_write_frames(vertices: u64, list: *const u16, list_len: usize; u8: out) -> Answer;
 }
 
 /// Splits a mesh of `vertices` vertices, whose triangles are `list`.
 pub fn split(vertices: u64, list: &[u16], out: &mut [u16], work: Work<SPLIT_WORK>) -> Answer {
-    let mut answer = Answer::default();
     let [w1, w2, w3, w4, w5] = work;
     // SAFETY: each pointer and length are those of a slice, and the slices that are written overlap no other, since they are
     // borrowed mutably. The call asks for nothing else: it takes every input.
-    unsafe { lend!(flatcarol_split(&mut answer, vertices, list.as_ptr(), list.len(); out, w1, w2, w3, w4, w5)) };
-    answer
+    unsafe { lend!(flatcarol_split(vertices, list.as_ptr(), list.len(); out, w1, w2, w3, w4, w5)) }
 }
 
 /// Undoes one split, in the role asked (0 to 3) or in the least that has a reading (4).
 pub fn undo_one(vertices: u64, list: &[u16], asked: u64, out: OneOutputs, work: Work<ONE_WORK>) -> OneAnswer {
-    let mut answer = OneAnswer::default();
     let OneOutputs { mesh, vertex_map, triangle_map } = out;
     let [w1, w2, w3, w4, w5, w6, w7, w8, w9] = work;
     // SAFETY: as in `split`.
     unsafe {
-        lend!(flatcarol_undo_one(&mut answer, vertices, list.as_ptr(), list.len(), asked;
+        lend!(flatcarol_undo_one(vertices, list.as_ptr(), list.len(), asked;
             mesh, vertex_map, triangle_map, w1, w2, w3, w4, w5, w6, w7, w8, w9))
-    };
-    answer
+    }
 }
 
 /// Undoes up to `asked` splits, each in the least role that has a reading.
 pub fn undo_several(vertices: u64, list: &[u16], asked: u64, out: &mut [u16], work: Work<SEVERAL_WORK>) -> SeveralAnswer {
-    let mut answer = SeveralAnswer::default();
     let [w1, w2, w3, w4, w5, w6, w7, w8, w9, w10] = work;
     // SAFETY: as in `split`.
     unsafe {
-        lend!(flatcarol_undo_several(&mut answer, vertices, list.as_ptr(), list.len(), asked;
+        lend!(flatcarol_undo_several(vertices, list.as_ptr(), list.len(), asked;
             out, w1, w2, w3, w4, w5, w6, w7, w8, w9, w10))
-    };
-    answer
+    }
 }
 
 /// Reads a mesh from its frames.
 pub fn read_frames(bytes: &[u8], out: &mut [u16]) -> Answer {
-    let mut answer = Answer::default();
     // SAFETY: as in `split`.
-    unsafe { lend!(flatcarol_read_frames(&mut answer, bytes.as_ptr(), bytes.len(); out)) };
-    answer
+    unsafe { lend!(flatcarol_read_frames(bytes.as_ptr(), bytes.len(); out)) }
 }
 
 /// Writes a mesh as frames.
 pub fn write_frames(vertices: u64, list: &[u16], out: &mut [u8]) -> Answer {
-    let mut answer = Answer::default();
     // SAFETY: as in `split`.
-    unsafe { lend!(flatcarol_write_frames(&mut answer, vertices, list.as_ptr(), list.len(); out)) };
-    answer
+    unsafe { lend!(flatcarol_write_frames(vertices, list.as_ptr(), list.len(); out)) }
 }
