@@ -81,7 +81,7 @@ pub fn several_and_one(size: usize) -> Vec<(usize, Case)> {
 // The library's calls on meshes that are made in an order, shuffled and as they are made.
 pub fn shuffled_and_in_order(size: usize) -> Vec<Case> {
     let is_compared = |case: &Case| [SPLIT, UNDO_ONE, UNDO_SEVERAL].contains(&case.call) && MADE_IN_ORDER.contains(&case.mesh);
-    // Each mesh in order and behind it shuffled.
+    // Each mesh in order, and after it shuffled.
     let mut cases = of_size(size).into_iter().filter(is_compared);
     let both = || {
         let in_order = cases.next()?;

@@ -205,7 +205,7 @@ fn check_levels(version: usize, (vertices, list): (u64, &[u16]), asked: u64, exp
     let answer = UNDO_SEVERALS[version](vertices, list, asked, &mut out, &mut work);
     assert_eq!(answer, expected, "{what}");
     assert!(out[..left.len()] == *left, "{what}: another mesh is left");
-    assert!(out[left.len()..].iter().all(|&entry| entry == LENT), "{what}: writes behind the mesh that is left");
+    assert!(out[left.len()..].iter().all(|&entry| entry == LENT), "{what}: writes after the mesh that is left");
     check_cleared(version, &work, &what);
 }
 

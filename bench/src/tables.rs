@@ -1,4 +1,4 @@
-// The tables, as docs/TIMES.md keeps them.
+// The tables, as bench/results keeps them.
 use std::path::Path;
 
 use crate::cases::{self, Case, COPY, HASHED, LIBRARY, NAMES, PLAIN};
@@ -160,7 +160,7 @@ fn number(value: Option<f64>) -> String {
 fn print_head(title: &str, cells: impl IntoIterator<Item = impl ToString>) {
     let cells: Vec<String> = cells.into_iter().map(|cell| cell.to_string()).collect();
     println!();
-    println!("### {}{}", title[..1].to_uppercase(), &title[1..]);
+    println!("## {}{}", title[..1].to_uppercase(), &title[1..]);
     println!();
     println!("| {} |", cells.join(" | "));
     println!("|{}", "---|".repeat(cells.len()));

@@ -205,7 +205,7 @@ impl<'a> Checker<'a> {
     }
 }
 
-// Mostly the guard behind: a call that goes too far does so at the end.
+// Mostly the guard after it: a call that goes too far does so at the end.
 fn side(random: &mut Random) -> Side {
     if random.one_in(4) {
         Side::Before
@@ -246,17 +246,17 @@ fn same_answer<A: PartialEq + Debug>(found: A, expected: A) -> Checked {
     }
 }
 
-// A buffer holds what was written, and behind it what it held before.
+// A buffer holds what was written, and after it what it held before.
 fn as_written<T: Entry>(name: &str, buffer: &Buffer<T>, written: &[T], before: &[T]) -> Checked {
     let lent = buffer.lent();
     if lent.len() < written.len() {
         return Err(format!("{name} has room for {} entries, and {} are expected", lent.len(), written.len()));
     }
-    let behind = written.len();
-    if lent[..behind] != *written || lent[behind..] != before[behind..] {
-        let expected = written.iter().chain(&before[behind..]);
+    let end = written.len();
+    if lent[..end] != *written || lent[end..] != before[end..] {
+        let expected = written.iter().chain(&before[end..]);
         let (place, (found, expected)) = lent.iter().zip(expected).enumerate().find(|(_, (one, other))| one != other).unwrap();
-        return Err(format!("{name}, entry {place}, of which {behind} are to be written, is {found:?}, expected {expected:?}"));
+        return Err(format!("{name}, entry {place}, of which {end} are to be written, is {found:?}, expected {expected:?}"));
     }
     if !buffer.margin_is_whole() {
         return Err(format!("{name}: entries beside it were written"));

@@ -115,7 +115,7 @@ impl Cover {
             for &number in call.numbers() {
                 expect(self.answers[call as usize][number], format!("{}: {number}", call.name()));
                 if PLACED.contains(&number) {
-                    expect(self.later_places[call as usize][number], format!("{}: {number} at a place behind 0", call.name()));
+                    expect(self.later_places[call as usize][number], format!("{}: {number} at a place after 0", call.name()));
                 }
             }
         }

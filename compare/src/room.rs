@@ -11,7 +11,7 @@ pub struct Room {
     pub work: Vec<usize>,
 }
 
-// The most that is ever lent of a buffer: more than the largest mesh needs within the limits, and a little behind them.
+// The most that is ever lent of a buffer: more than the largest mesh needs within the limits, and a little beyond them.
 pub const MOST: usize = 200_000;
 
 // What docs/ROOM.md says is needed, as far as it can be lent: a mesh that needs more is refused by its size.

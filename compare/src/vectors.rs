@@ -1,10 +1,13 @@
-// The cases of crates/vectors, as text: numbers, which are commands with their arguments.
+// The cases of crates/vectors, as text: numbers, which are commands with their arguments (reference/README.md, "Vectors"). Those that were
+// worked out by hand come first.
 use std::fmt::Write;
 
 use crate::document::{torus, Named, STARRED};
 use crate::kinds::KINDS;
 use crate::meshes::{self, Mesh};
 use crate::random::Random;
+
+const BY_HAND: &str = include_str!("../../reference/tests/by_hand.txt");
 
 const SEED: u64 = 1;
 const GENERATED: usize = 330;
@@ -38,6 +41,11 @@ impl Text {
         self.line(&format!("2 {a} {b} {c}"));
     }
 
+    // From here on every buffer has so many entries to spare.
+    fn spare(&mut self, entries: usize) {
+        self.line(&format!("7 {entries} 0 0"));
+    }
+
     // The present mesh becomes its splitting, and that one's, and so on.
     fn split(&mut self, times: usize) {
         self.line(&vec!["3"; times].join(" "));
@@ -65,6 +73,8 @@ impl Text {
 pub fn text() -> String {
     let mut text = Text::default();
     text.comment("Cases for the library and for the independent implementation. Written by 'compare --vectors'.");
+    text.comment("---- reference/tests/by_hand.txt");
+    text.0 += BY_HAND;
     unstarred(&mut text);
     starred(&mut text);
     refusals(&mut text);
@@ -144,6 +154,7 @@ fn generated(text: &mut Text) {
         let kind = &KINDS[number % KINDS.len()];
         let most = random.pick(&[4, 8, 8, 12, 16, 24, 32, 48]);
         text.comment(kind.name);
+        text.spare(number % 3);
         text.mesh(&kind.of_size(&mut random, most));
         text.undo_one((0..=4).chain(random.one_in(10).then(|| random.pick(&TOO_MUCH))));
         text.undo_several([0, 1, 2, 7].into_iter().chain(random.one_in(10).then(|| random.pick(&TOO_MUCH))));

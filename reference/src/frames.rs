@@ -29,7 +29,7 @@ fn frame<const N: usize>(line: &[u8], tag: &[u8; 2]) -> Option<[u16; N]> {
     Some(numbers)
 }
 
-/// "each line ended by one LF": takes the bytes before the next LF, and leaves those behind it. None, and nothing is taken, if there
+/// "each line ended by one LF": takes the bytes before the next LF, and leaves those after it. None, and nothing is taken, if there
 /// is no further LF.
 fn next_line<'a>(rest: &mut &'a [u8]) -> Option<&'a [u8]> {
     let end = rest.iter().position(|&b| b == b'\n')?;

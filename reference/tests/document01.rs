@@ -164,14 +164,19 @@ fn torus() {
 #[test]
 fn seven_splits() {
     let (mut v, mut list) = (3, vec![0, 1, 2]);
-    for _ in 0..7 {
+    let mut fourth = Vec::new();
+    for times in 1..=7 {
         (v, list) = split_of(v, &list);
+        if times == 4 {
+            fourth = list.clone();
+        }
     }
     assert_eq!(list.len(), 3 * 16_384);
     assert_eq!(several(v, &list, 7), Several { answer: accepted(3, 1), levels: 7, roles: [0; 7], mesh: vec![0, 1, 2] });
     assert_eq!(several(v, &list, 8).answer, refused(1, 0));
     let two = several(v, &list, 2);
     assert_eq!((two.answer, two.levels), (accepted(561, 1_024), 2));
+    assert_eq!(several(v, &list, 3), Several { answer: accepted(153, 256), levels: 3, roles: [0; 7], mesh: fourth });
     let unchanged = several(v, &list, 0);
     assert_eq!((unchanged.answer, unchanged.levels, &unchanged.mesh), (accepted(v, 16_384), 0, &list));
     assert_eq!(split(v, &list[..3 * 4_097], usize::MAX, &[]).0, refused(4, 0));

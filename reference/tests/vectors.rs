@@ -1,4 +1,5 @@
-//! The program `vectors`: the format of README.md, "Vectors". Expectations by hand.
+//! The program `vectors`: the format of README.md, "Vectors". Expectations by hand. `by_hand.txt` is a file of cases in which the comments
+//! that begin with `#=` hold the expected answers.
 
 use std::io::Write;
 use std::process::{Command, Stdio};
@@ -8,6 +9,26 @@ fn run(input: &str) -> String {
         Command::new(env!("CARGO_BIN_EXE_vectors")).stdin(Stdio::piped()).stdout(Stdio::piped()).spawn().expect("vectors starts");
     child.stdin.take().expect("its input").write_all(input.as_bytes()).expect("it reads");
     String::from_utf8(child.wait_with_output().expect("it ends").stdout).expect("text")
+}
+
+const BY_HAND: &str = include_str!("by_hand.txt");
+
+/// The answer is as expected. Of a line that ends in two dots, only what stands before them is expected.
+fn is_as_expected(answer: &str, expected: &str) -> bool {
+    expected.strip_suffix("..").map_or(answer == expected, |beginning| answer.starts_with(beginning))
+}
+
+#[test]
+fn by_hand() {
+    let expected =
+        BY_HAND.split('\n').filter_map(|line| line.strip_prefix("#=")).map(|line| line.strip_prefix(' ').unwrap_or(line));
+    let expected: Vec<&str> = expected.collect();
+    let answers = run(BY_HAND);
+    let answers: Vec<&str> = answers.strip_suffix('\n').expect("lines").split('\n').collect();
+    for (line, (answer, expected)) in answers.iter().zip(&expected).enumerate() {
+        assert!(is_as_expected(answer, expected), "answer {line}: {answer:?} where {expected:?} was worked out");
+    }
+    assert_eq!(answers.len(), expected.len());
 }
 
 #[test]
@@ -26,6 +47,10 @@ fn answers() {
                     one 0 8 1 0 0 0\n";
     assert_eq!(run(text), expected);
     assert_eq!(run("1 65535 3 0 1 2 3 1 3 2 0 1 4 4"), "split 4 0 0 0\none 4 2 0 0 0 0\n");
+    // numbers may begin with zeros and be large; comments may stand after numbers
+    assert_eq!(run("000003 # no mesh\n4 18446744073709551609"), "split 3 0 0 0\none 18446744073709551609 1 0 0 0 0\n");
+    // the bytes of frames may be anything
+    assert_eq!(run("8 0 2 #\n8 0 11\n4D00000000\n9"), "read 12 0 0 0\nread 0 0 0 0\n0:\nwrite 0 0 0 0\n4D00000000\n\n");
     // 96 entries are written out, 97 and more are not
     let split_twice = run("1 3 3 0 1 2 3 3 3");
     assert!(split_twice.lines().nth(3).is_some_and(|line| line.starts_with("48: ") && line.split(' ').count() == 49));
@@ -35,25 +60,28 @@ fn answers() {
 #[test]
 fn wrong_files() {
     for text in [
-        "7",
+        "10",
         "0",
         "4",
+        "7 0 0",
+        "7 9 0 0",
+        "8 0 11 4D00000000",
+        "8 0 0",
         "1 3",
         "1 3 3 0 1",
         "2 0 1",
-        "1 3 65536",
+        "1 3 1 65536",
         "x",
-        "3 # no",
-        " # no",
-        "000003",
         "-1",
+        "4 18446744073709551610",
+        "4 99999999999999999999999999999999999999999999",
         "3,",
         "1 0 49156",
         "3\r\n",
     ] {
         assert!(run(text).ends_with("wrong\n"), "{text:?}");
     }
-    assert_eq!(run("3 9 3"), "split 3 0 0 0\nwrong\n");
+    assert_eq!(run("3 10 3"), "split 3 0 0 0\nwrong\n");
     // 49,155 entries are allowed, three more are not
     let mut text = String::from("1 3 49155");
     text += &" 0".repeat(49_155);

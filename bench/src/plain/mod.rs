@@ -9,6 +9,7 @@ pub mod undo_several;
 
 use crate::refusals::Refusal;
 
+// Each call clears its work buffers once, at the end, whatever it answers.
 fn clear(work: &mut [Vec<u16>]) {
     for buffer in work {
         buffer.fill(0);

@@ -7,12 +7,9 @@ use crate::refusals::{answer, judge_split, Counts, Refusal};
 #[inline(never)]
 pub fn split(vertices: u64, list: &[u16], out: &mut [u16], work: &mut SplitWork) -> Answer {
     let sizes = judge_split(vertices, list.len(), out.len(), room(work));
+    let counts = sizes.and_then(|()| split_mesh(vertices as usize, list, out, work));
     clear(work);
-    answer(sizes.and_then(|()| {
-        let counts = split_mesh(vertices as usize, list, out, work);
-        clear(work);
-        counts
-    }))
+    answer(counts)
 }
 
 // Refusals 6 to 10, and the split.

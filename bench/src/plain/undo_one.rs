@@ -8,12 +8,9 @@ use crate::refusals::{judge_undo_one, one_answer, Counts, Refusal, ANY_ROLE};
 #[inline(never)]
 pub fn undo_one(vertices: u64, list: &[u16], asked: u64, out: &mut OneOutputs, work: &mut OneWork) -> OneAnswer {
     let sizes = judge_undo_one(vertices, list.len(), asked, out, room(work));
+    let found = sizes.and_then(|()| undo_mesh(vertices as usize, list, asked, out, work));
     clear(work);
-    one_answer(sizes.and_then(|()| {
-        let found = undo_mesh(vertices as usize, list, asked, out, work);
-        clear(work);
-        found
-    }))
+    one_answer(found)
 }
 
 // Refusals 6 to 11, and the reading.

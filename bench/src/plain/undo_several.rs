@@ -9,12 +9,9 @@ use std::mem::swap;
 #[inline(never)]
 pub fn undo_several(vertices: u64, list: &[u16], asked: u64, out: &mut [u16], work: &mut SeveralWork) -> SeveralAnswer {
     let sizes = judge_undo_several(vertices, list.len(), asked, out.len(), room(work));
+    let undone = sizes.and_then(|()| undo_levels(vertices as usize, list, asked, out, work));
     clear(work);
-    several_answer(sizes.and_then(|()| {
-        let undone = undo_levels(vertices as usize, list, asked, out, work);
-        clear(work);
-        undone
-    }))
+    several_answer(undone)
 }
 
 // Refusals 6 to 10, and the levels. The mesh is judged once: a coarse mesh that a role reads off a proper one is proper too. Where
@@ -27,8 +24,8 @@ fn undo_levels(
     work: &mut SeveralWork,
 ) -> Result<SeveralAnswer, Refusal> {
     let (mut vertices, mut corners) = (vertices, list.len());
-    let [current, coarse, other, rows, ring, marks, numbers, map, faces, table] = work;
-    judge(vertices, list, ring, [&mut *marks, numbers, map, faces])?;
+    let [current, other, rows, ring, marks, coarse, numbers, map, faces, table] = work;
+    judge(vertices, list, ring, [&mut *marks, coarse, numbers, map])?;
 
     let mut current = &mut current[..];
     current[..corners].copy_from_slice(list);

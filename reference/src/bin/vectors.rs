@@ -1,6 +1,6 @@
 //! Reads cases from standard input and writes their answers to standard output, in the format of README.md, "Vectors".
 
-use reference::{split, undo_one, undo_several, One, OneRoom, Search, Several};
+use reference::{read_frames, split, undo_one, undo_several, write_frames, Answer, One, OneRoom, Search, Several};
 use std::fmt::Write as _;
 use std::io::{Read as _, Write as _};
 
@@ -10,6 +10,15 @@ const MOST_ENTRIES: usize = 49_155;
 const MOST_BYTES: usize = 262_144;
 /// Up to this many triangles, both searches are run and must agree.
 const BOTH_SEARCHES: usize = 16;
+
+/// Numbers are below this one.
+const LARGE: u128 = 18_446_744_073_709_551_610;
+/// "spare is at most 8".
+const MOST_SPARE: u64 = 8;
+/// The work buffers of the library's calls (docs/ROOM.md).
+const SPLIT_WORK: u64 = 5;
+const ONE_WORK: u64 = 9;
+const SEVERAL_WORK: u64 = 10;
 
 /// The file is wrong from here on.
 struct Wrong;
@@ -21,12 +30,10 @@ struct Numbers<'a> {
 }
 
 impl Numbers<'_> {
-    /// "numbers are separated by one or more blanks or line feeds. A line that begins with `#` is a comment and goes on to its line
-    /// feed (a `#` may only stand at the beginning of a line)."
+    /// "Before a number there may be blanks, line feeds and comments; a comment goes from a `#` to its line feed."
     fn skip(&mut self) {
         while let Some(&b) = self.bytes.get(self.at) {
-            let begins_a_line = self.at == 0 || self.bytes[self.at - 1] == b'\n';
-            if b == b'#' && begins_a_line {
+            if b == b'#' {
                 while self.bytes.get(self.at).is_some_and(|&b| b != b'\n') {
                     self.at += 1;
                 }
@@ -38,8 +45,8 @@ impl Numbers<'_> {
         }
     }
 
-    /// The next number, or None at the end of the file. "A number is one to five decimal digits, 0 to 65535".
-    fn next(&mut self) -> Result<Option<u16>, Wrong> {
+    /// The next number, or None at the end of the file. "A number is one or more decimal digits, below 18,446,744,073,709,551,610".
+    fn next(&mut self) -> Result<Option<u64>, Wrong> {
         self.skip();
         let begin = self.at;
         while self.bytes.get(self.at).is_some_and(|b| b.is_ascii_digit()) {
@@ -48,21 +55,57 @@ impl Numbers<'_> {
         match (&self.bytes[begin..self.at], self.bytes.get(self.at)) {
             ([], None) => Ok(None),
             ([], Some(_)) => Err(Wrong),
-            (digits, None | Some(b' ' | b'\n')) if digits.len() <= 5 => {
-                let value = digits.iter().fold(0u32, |n, d| 10 * n + u32::from(d - b'0'));
-                u16::try_from(value).map(Some).map_err(|_| Wrong)
+            (digits, _) => {
+                let value = digits.iter().fold(0u128, |n, d| (10 * n + u128::from(d - b'0')).min(LARGE));
+                u64::try_from(value).ok().filter(|_| value < LARGE).map(Some).ok_or(Wrong)
             }
-            _ => Err(Wrong),
         }
     }
 
     /// The next number within a command.
-    fn argument(&mut self) -> Result<u16, Wrong> {
+    fn argument(&mut self) -> Result<u64, Wrong> {
         self.next()?.ok_or(Wrong)
+    }
+
+    /// The next entry of a list.
+    fn entry(&mut self) -> Result<u16, Wrong> {
+        u16::try_from(self.argument()?).map_err(|_| Wrong)
+    }
+
+    /// "n bytes, which begin after the one byte that follows n."
+    fn raw(&mut self, n: u64) -> Result<&[u8], Wrong> {
+        let begin = self.at + 1;
+        let end = usize::try_from(n).ok().and_then(|n| begin.checked_add(n)).ok_or(Wrong)?;
+        self.at = end;
+        self.bytes.get(begin..end).ok_or(Wrong)
     }
 }
 
-/// "the number of entries, then a colon right behind it, and then, each with one blank before it: the entries themselves if they are
+/// How buffers are lent: "each has `spare` entries more than it needs, but the buffer number `short`, counted from 1 in the order of
+/// the call, has `fewer` entries fewer than it needs, or none".
+#[derive(Clone, Copy, Default)]
+struct Lent {
+    spare: usize,
+    short: u64,
+    fewer: u64,
+}
+
+impl Lent {
+    /// The length of the buffer of this number, which needs so many entries.
+    fn room(self, number: u64, need: usize) -> usize {
+        if number == self.short {
+            return (need as u64).saturating_sub(self.fewer) as usize;
+        }
+        need.saturating_add(self.spare)
+    }
+
+    /// The lengths of work buffers whose numbers go up from `first`.
+    fn work(self, first: u64, count: u64, need: usize) -> Vec<usize> {
+        (first..first + count).map(|number| self.room(number, need)).collect()
+    }
+}
+
+/// "the number of entries, then a colon right after it, and then, each with one blank before it: the entries themselves if they are
 /// at most 96; otherwise the first three entries, the last three, and a sum: begin with 0, and for each entry e in order
 /// s := (31 s + e + 1) mod 1,000,003."
 fn list_line(list: &[u16]) -> String {
@@ -79,10 +122,17 @@ fn list_line(list: &[u16]) -> String {
     line + "\n"
 }
 
-/// The present mesh.
+/// The first numbers of an answer's line.
+fn numbers_of(a: Answer) -> String {
+    format!("{} {} {} {}", a.refusal, a.place, a.vertices, a.triangles)
+}
+
+/// The present mesh, and how buffers are lent.
+#[derive(Default)]
 struct Present {
     vertices: u64,
     list: Vec<u16>,
+    lent: Lent,
 }
 
 impl Present {
@@ -90,9 +140,15 @@ impl Present {
         self.list.len() / 3
     }
 
-    /// Each work buffer has V + 3F entries.
-    fn work(&self) -> [usize; 1] {
-        [self.vertices as usize + 3 * self.triangles()]
+    /// Each work buffer needs V + 3F entries.
+    fn work_need(&self) -> usize {
+        (self.vertices as usize).saturating_add(3 * self.triangles())
+    }
+
+    /// The mesh takes the place of this one.
+    fn take(&mut self, vertices: u64, list: Vec<u16>) {
+        self.vertices = vertices;
+        self.list = list;
     }
 
     /// By spreading, and for small meshes by both searches, which must agree.
@@ -104,15 +160,35 @@ impl Present {
         answer
     }
 
+    fn split(&self) -> (Answer, Vec<u16>) {
+        let out = self.lent.room(1, 12 * self.triangles());
+        split(self.vertices, &self.list, out, &self.lent.work(2, SPLIT_WORK, self.work_need()))
+    }
+
     fn undo_one(&self, asked: u64) -> One {
         let f = self.triangles();
-        let room = OneRoom { mesh: 3 * (f / 4), vertex_map: self.vertices as usize, triangle_map: f };
-        self.by_search(|search| undo_one(self.vertices, &self.list, asked, room, &self.work(), search))
+        let room = OneRoom {
+            mesh: self.lent.room(1, 3 * (f / 4)),
+            vertex_map: self.lent.room(2, self.vertices as usize),
+            triangle_map: self.lent.room(3, f),
+        };
+        let work = self.lent.work(4, ONE_WORK, self.work_need());
+        self.by_search(|search| undo_one(self.vertices, &self.list, asked, room, &work, search))
     }
 
     fn undo_several(&self, asked: u64) -> Several {
-        let out = 3 * self.triangles();
-        self.by_search(|search| undo_several(self.vertices, &self.list, asked, out, &self.work(), search))
+        let out = self.lent.room(1, 3 * self.triangles());
+        let work = self.lent.work(2, SEVERAL_WORK, self.work_need());
+        self.by_search(|search| undo_several(self.vertices, &self.list, asked, out, &work, search))
+    }
+
+    /// The answer, and all that was lent: "a byte that is as it was lent shows as a hyphen".
+    fn write(&self) -> (Answer, String) {
+        let room = self.lent.room(1, 11 + 15 * self.triangles());
+        let (answer, bytes) = write_frames(self.vertices, &self.list, room);
+        let written = String::from_utf8(bytes).expect("frames are text");
+        let kept = "-".repeat(room - written.len());
+        (answer, written + &kept)
     }
 }
 
@@ -122,39 +198,38 @@ fn answer(bytes: &[u8], text: &mut String) -> Result<(), Wrong> {
         return Err(Wrong);
     }
     let mut numbers = Numbers { bytes, at: 0 };
-    let mut present = Present { vertices: 0, list: Vec::new() };
+    let mut present = Present::default();
     while let Some(command) = numbers.next()? {
         match command {
             1 => {
-                let vertices = numbers.argument()?.into();
-                let n = usize::from(numbers.argument()?);
-                if n > MOST_ENTRIES {
+                let vertices = numbers.argument()?;
+                let n = numbers.argument()?;
+                if n > MOST_ENTRIES as u64 {
                     return Err(Wrong);
                 }
-                let list = (0..n).map(|_| numbers.argument()).collect::<Result<_, _>>()?;
-                present = Present { vertices, list };
+                let list = (0..n).map(|_| numbers.entry()).collect::<Result<_, _>>()?;
+                present.take(vertices, list);
             }
             2 => {
-                let corners = [numbers.argument()?, numbers.argument()?, numbers.argument()?];
                 if present.list.len() + 3 > MOST_ENTRIES {
                     return Err(Wrong);
                 }
+                let corners = [numbers.entry()?, numbers.entry()?, numbers.entry()?];
                 present.list.extend(corners);
             }
             3 => {
-                let (a, list) = split(present.vertices, &present.list, 12 * present.triangles(), &present.work());
-                let _ = writeln!(text, "split {} {} {} {}", a.refusal, a.place, a.vertices, a.triangles);
+                let (a, list) = present.split();
+                let _ = writeln!(text, "split {}", numbers_of(a));
                 if a.refusal == 0 {
                     *text += &list_line(&list);
-                    present = Present { vertices: a.vertices, list };
+                    present.take(a.vertices, list);
                 }
             }
             4 => {
                 let asked = numbers.argument()?;
-                let one = present.undo_one(asked.into());
-                let a = one.answer;
-                let _ = writeln!(text, "one {asked} {} {} {} {} {}", a.refusal, a.place, a.vertices, a.triangles, one.role);
-                if a.refusal == 0 {
+                let one = present.undo_one(asked);
+                let _ = writeln!(text, "one {asked} {} {}", numbers_of(one.answer), one.role);
+                if one.answer.refusal == 0 {
                     for list in [&one.mesh, &one.vertex_map, &one.triangle_map] {
                         *text += &list_line(list);
                     }
@@ -162,10 +237,9 @@ fn answer(bytes: &[u8], text: &mut String) -> Result<(), Wrong> {
             }
             5 | 6 => {
                 let asked = numbers.argument()?;
-                let several = present.undo_several(asked.into());
+                let several = present.undo_several(asked);
                 let a = several.answer;
-                let _ = write!(text, "several {asked} {} {} {} {}", a.refusal, a.place, a.vertices, a.triangles);
-                let _ = write!(text, " {}", several.levels);
+                let _ = write!(text, "several {asked} {} {}", numbers_of(a), several.levels);
                 for role in several.roles {
                     let _ = write!(text, " {role}");
                 }
@@ -173,9 +247,30 @@ fn answer(bytes: &[u8], text: &mut String) -> Result<(), Wrong> {
                 if a.refusal == 0 {
                     *text += &list_line(&several.mesh);
                     if command == 6 {
-                        present = Present { vertices: a.vertices, list: several.mesh };
+                        present.take(a.vertices, several.mesh);
                     }
                 }
+            }
+            7 => {
+                let spare = numbers.argument()?;
+                if spare > MOST_SPARE {
+                    return Err(Wrong);
+                }
+                present.lent = Lent { spare: spare as usize, short: numbers.argument()?, fewer: numbers.argument()? };
+            }
+            8 => {
+                let room = numbers.argument()?;
+                let n = numbers.argument()?;
+                let (a, list) = read_frames(numbers.raw(n)?, room as usize);
+                let _ = writeln!(text, "read {}", numbers_of(a));
+                if a.refusal == 0 {
+                    *text += &list_line(&list);
+                    present.take(a.vertices, list);
+                }
+            }
+            9 => {
+                let (a, lent) = present.write();
+                let _ = writeln!(text, "write {}\n{lent}", numbers_of(a));
             }
             _ => return Err(Wrong),
         }
