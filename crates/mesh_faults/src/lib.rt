@@ -1,6 +1,6 @@
 // The faults of a mesh that refusals 6 to 9 report: for each the least place, or the number of places where there is
-// none. Every table lives in a slice that the caller lends. It rests on the loops of `lists` and the tables of `rings`,
-// takes time linear in vertices and triangles, whatever the mesh, and assumes nothing.
+// none. Every table lives in a slice that the caller lends. It rests on the loops of `lists` and the tables of
+// `mesh_rings`, takes time linear in vertices and triangles, whatever the mesh, and assumes nothing.
 use lists::at;
 use lists::fill;
 use lists::first_zero;
