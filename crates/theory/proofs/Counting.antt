@@ -13,7 +13,7 @@ use Rattle.theory.proofs.Finite.{neither-less}
 -- ---- count
 
 -- a test counts for one at most
-bit-le : (b : Bool) → bit b ≤ 1
+pub bit-le : (b : Bool) → bit b ≤ 1
 bit-le true = omega arith
 bit-le false = omega arith
 

@@ -1,6 +1,6 @@
 -- `determined`: for each call, two results that satisfy its relation are equal. Its rows refuse with one number at one
--- place or are passed (`Refusals`); the choice of a role, the returned reading in it, the levels of undo several and
--- the mesh that lines say are one.
+-- place or are passed (`Refusals`); the choice of a role, the returned reading in it, the levels of undo several, the
+-- mesh that lines say and the list that a text says are one.
 use Prim.Native.Nat.{ℕ, zero, suc, _*_, _≤_}
 use native.Mathlib.Omega.{arith}
 use mathlib.Core.Path.{_≡_, refl, sym, ap, ap₂, _∙_, subst, subst₂}
@@ -16,6 +16,7 @@ use Rattle.theory.specs.Calls.{severalAccepted, written, writtenReading,
 use Rattle.theory.specs.Calls.{Splits, undoOneRules, UndoesOne, UndoesSeveral}
 use Rattle.theory.specs.Frames.{FramesAnswer, framesRefusal, framesAccepted, corners, LinesSay}
 use Rattle.theory.specs.Frames.{ReadsFrames, WritesFrames}
+use Rattle.theory.specs.Index.{faces, TextAnswer, textRefusal, ReadsIndex, WritesIndex}
 use Rattle.theory.specs.Program.{answerLine, readingText, PrintsMesh, Prints}
 use Rattle.theory.proofs.Finite.{match-size}
 use Rattle.theory.proofs.Splitting.{split-triangles}
@@ -188,6 +189,31 @@ writes-frames-determined (WritesFrames.refuses m i R e f) (WritesFrames.accepts 
 writes-frames-determined (WritesFrames.accepts R e f) (WritesFrames.refuses n j S e′ f′) =
     absurd (passed-not-refused _ n j R S)
 writes-frames-determined (WritesFrames.accepts R e f) (WritesFrames.accepts S e′ f′) = (e ∙ sym e′, f ∙ sym f′)
+
+pub reads-index-determined : {N : ℕ} {text out o p : List ℕ} {a b : FramesAnswer}
+    → ReadsIndex N text out a o → ReadsIndex N text out b p → (a ≡ b) × (o ≡ p)
+reads-index-determined (ReadsIndex.refuses m i R e f) (ReadsIndex.refuses n j S e′ f′) =
+    let same : (m ≡ n) × (i ≡ j) = refused-unique _ m i n j R S in
+    (e ∙ ap₂ framesRefusal (same .0) (same .1) ∙ sym e′, f ∙ sym f′)
+reads-index-determined (ReadsIndex.refuses m i R e f) (ReadsIndex.accepts S P l e′ f′) =
+    absurd (passed-not-refused _ m i P R)
+reads-index-determined (ReadsIndex.accepts T P l e f) (ReadsIndex.refuses n j S e′ f′) =
+    absurd (passed-not-refused _ n j P S)
+reads-index-determined {N} {out = out} (ReadsIndex.accepts T P l e f) (ReadsIndex.accepts S Q l′ e′ f′) =
+    let said : faces T ≡ faces S = sym l ∙ l′ in
+    let same : T ≡ S = cc in
+    (e ∙ ap (λ U. framesAccepted N (triangles U)) same ∙ sym e′, f ∙ ap (λ U. written U out) same ∙ sym f′)
+
+pub writes-index-determined : {N : ℕ} {T out o p : List ℕ} {a b : TextAnswer}
+    → WritesIndex N T out a o → WritesIndex N T out b p → (a ≡ b) × (o ≡ p)
+writes-index-determined (WritesIndex.refuses m i R e f) (WritesIndex.refuses n j S e′ f′) =
+    let same : (m ≡ n) × (i ≡ j) = refused-unique _ m i n j R S in
+    (e ∙ ap₂ textRefusal (same .0) (same .1) ∙ sym e′, f ∙ sym f′)
+writes-index-determined (WritesIndex.refuses m i R e f) (WritesIndex.accepts S e′ f′) =
+    absurd (passed-not-refused _ m i S R)
+writes-index-determined (WritesIndex.accepts R e f) (WritesIndex.refuses n j S e′ f′) =
+    absurd (passed-not-refused _ n j R S)
+writes-index-determined (WritesIndex.accepts R e f) (WritesIndex.accepts S e′ f′) = (e ∙ sym e′, f ∙ sym f′)
 
 -- ---- the program
 

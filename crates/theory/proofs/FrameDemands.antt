@@ -7,15 +7,13 @@ use mathlib.Core.Path.{_≡_, refl, sym, ap, ap₂, _∙_, subst}
 use mathlib.Core.Logic.{_⊎_, inl, inr}
 use mathlib.Core.List.{List}
 use lib.ListN.{length}
-use Rattle.theory.specs.Limits.{mostTriangles, mostVertices}
 use Rattle.theory.specs.Mesh.{at, triangles}
-use Rattle.theory.specs.Refusals.{Room, Short, Passed, Refused}
+use Rattle.theory.specs.Refusals.{Passed, Refused}
 use Rattle.theory.specs.Calls.{written}
 use Rattle.theory.specs.Frames.{FramesAnswer, framesAccepted, frames, LinesSay, readRules, ReadsFrames}
-use Rattle.theory.specs.Frames.{writeRooms, writeRules, WritesFrames}
+use Rattle.theory.specs.Frames.{writeRules, WritesFrames}
 use Rattle.theory.specs.Demands.{foundCorners, foundBytes}
-use Rattle.theory.proofs.Refusals.{refused-above, not-given, threes-whole, large-within, within-large}
-use Rattle.theory.proofs.Refusals.{none-short-fits, fits-none-short}
+use Rattle.theory.proofs.Refusals.{refused-above, refused-number, Fitting, fitting-passed, passed-fitting}
 use Rattle.theory.proofs.Determined.{reads-frames-determined, writes-frames-determined}
 use Rattle.theory.proofs.Results.{take-written}
 use Rattle.theory.proofs.Reader.{mesh, readFrames, read-passed, passed-read}
@@ -41,56 +39,29 @@ read-refusals {bytes} {out} (ReadsFrames.refuses n p R e _) =
     (read-row-numbers (length out) bytes n p R))
 read-refusals (ReadsFrames.accepts _ _ _ _ e _) = inl (ap (λ (a : FramesAnswer). a .refusal) e)
 
--- the rows of writing have three numbers
-write-row-numbers : (N entries out n p : ℕ) → Refused (writeRules N entries out) n p → (n ≡ 2) ⊎ ((n ≡ 4) ⊎ (n ≡ 5))
-unfolding Refused
-write-row-numbers N entries out n p (inl r) = inl (r .0)
-write-row-numbers N entries out n p (inr (_, inl r)) = inr (inl (r .0))
-write-row-numbers N entries out n p (inr (_, inr (_, inl r))) = inr (inr (r .0))
-write-row-numbers N entries out n p (inr (_, inr (_, inr (_, r)))) = absurd r
-
 -- "Writing frames gives 2, 4, 5": no other number is answered
 pub write-refusals : {N : ℕ} {T out out′ : List ℕ} {answer : FramesAnswer} → WritesFrames N T out answer out′
     → (answer .refusal ≡ 0) ⊎ ((answer .refusal ≡ 2) ⊎ ((answer .refusal ≡ 4) ⊎ (answer .refusal ≡ 5)))
 write-refusals {N} {T} {out} (WritesFrames.refuses n p R e _) =
     inr (subst (λ (m : ℕ). (m ≡ 2) ⊎ ((m ≡ 4) ⊎ (m ≡ 5))) (ap (λ (a : FramesAnswer). a .refusal) (sym e))
-    (write-row-numbers N (length T) (length out) n p R))
+    (refused-number (writeRules N (length T) (length out)) n p R))
 write-refusals (WritesFrames.accepts _ e _) = inl (ap (λ (a : FramesAnswer). a .refusal) e)
 
 -- ---- what writing accepts
 
 -- A mesh that can be written: whole, within the limits, and its frames fit into the room. No corner is judged.
-pub record Writable (N : ℕ) (T : List ℕ) (room : ℕ) : Type 0 where
-  pub whole : length T ≡ 3 * triangles T
-  pub few : triangles T ≤ mostTriangles
-  pub low : N ≤ mostVertices
-  pub fits : 11 + 15 * triangles T ≤ room
+abbrev pub Writable : ℕ → List ℕ → ℕ → Type 0
+Writable N T room = Fitting N (length T) (record { lent = room; needed = 11 + 15 * triangles T })
 
 -- it is refused by no row
 pub writable-passed : (N : ℕ) (T out : List ℕ) → Writable N T (length out)
     → Passed (writeRules N (length T) (length out))
-unfolding Passed
-writable-passed N T out W = (
-  λ place g. g .0 (omega (arith, W .whole)),
-  (
-    λ place g. within-large (W .few) (W .low) (g .0),
-    ((λ place g. fits-none-short (writeRooms (triangles T) (length out)) (W .fits, tt) (g .0)), tt),
-  ),
-)
+writable-passed N T out W = fitting-passed N (length T) _ W
 
 -- and what is refused by no row is such a mesh
 pub passed-writable : (N : ℕ) (T out : List ℕ) → Passed (writeRules N (length T) (length out))
     → Writable N T (length out)
-unfolding Passed
-passed-writable N T out passed =
-    let rooms : List Room = writeRooms (triangles T) (length out) in
-    let limits = large-within mostTriangles N (triangles T) (passed .1 .0) in
-    record {
-      whole = omega (arith, threes-whole (length T) (passed .0));
-      few = limits .0;
-      low = limits .1;
-      fits = none-short-fits rooms (not-given (Short rooms) (passed .1 .1 .0)) .0;
-    }
+passed-writable N T out passed = passed-fitting N (length T) _ passed
 
 -- What an acceptance by writing says, of the bytes as a caller finds them.
 pub record Wrote (N : ℕ) (T out : List ℕ) (answer : FramesAnswer) (out′ : List ℕ) : Type 0 where
@@ -185,7 +156,7 @@ module _ {bytes out out′ : List ℕ} {answer : FramesAnswer} (R : ReadsFrames 
       (written bytes o)
   read-can-be-written {o} enough =
       let r = read-accepted R accepts in
-      WritesFrames.accepts (writable-passed _ _ o (read-writable enough))
+      WritesFrames.accepts (writable-passed (answer .vertices) (foundCorners answer out′) o (read-writable enough))
       (ap (framesAccepted (answer .vertices)) (sym (r .counted)))
       (ap (λ (b : List ℕ). written b o) (sym (write-read _ _ bytes _ (r .is))))
 

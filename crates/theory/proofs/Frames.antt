@@ -22,14 +22,14 @@ use Rattle.theory.proofs.Reader.{within-limits, mesh, meshOf, readFrame
 -- ---- tests and options
 
 -- where a choice by an option gives what none does not give, there is something
-some-from : {A B R : Type 0} {other b : B} {step : A → B} (o : Option A)
+pub some-from : {A B R : Type 0} {other b : B} {step : A → B} (o : Option A)
     → elim o [ none ↦ other | some a ↦ step a ] ≡ b
     → (other ≡ b → _≡_ {A = ℕ} 0 1) → ((a : A) → o ≡ some a → step a ≡ b → R) → R
 some-from none e differ next = absurd (omega (arith, differ e))
 some-from (some a) e differ next = next a refl e
 
 -- where a choice by a test gives what a failure does not give, the test passes
-true-from : {B R : Type 0} {x y b : B} (t : Bool) → elim t [ true ↦ x | false ↦ y ] ≡ b
+pub true-from : {B R : Type 0} {x y b : B} (t : Bool) → elim t [ true ↦ x | false ↦ y ] ≡ b
     → (y ≡ b → _≡_ {A = ℕ} 0 1) → (t ≡ true → x ≡ b → R) → R
 true-from true e differ next = next refl e
 true-from false e differ next = absurd (omega (arith, differ e))
@@ -41,7 +41,7 @@ false-from true e differ next = absurd (omega (arith, differ e))
 false-from false e differ next = next refl e
 
 -- a number that passes the tests of a range is within it
-within : (low n high : ℕ) → leb low n && leb n high ≡ true → (low ≤ n) × (n ≤ high)
+pub within : (low n high : ℕ) → leb low n && leb n high ≡ true → (low ≤ n) × (n ≤ high)
 within low n high e =
     let both : (leb low n ≡ true) × (leb n high ≡ true) = and-eq-true-iff (leb low n) (leb n high) .0 e in
     (leb-true low n both.0, leb-true n high both.1)
@@ -229,16 +229,16 @@ numbers [] = []
 numbers (x ∷ xs) = fourDigits x ++ numbers xs
 
 -- n numbers, each of which four digits are enough for
-record Small (n : ℕ) (xs : List ℕ) : Type 0 where
-  long : length xs ≡ n
-  below : (c : ℕ) → c < length xs → at xs c < 65536
+pub record Small (n : ℕ) (xs : List ℕ) : Type 0 where
+  pub long : length xs ≡ n
+  pub below : (c : ℕ) → c < length xs → at xs c < 65536
 
 -- no numbers at all
-small-none : Small 0 []
+pub small-none : Small 0 []
 small-none = record { long = refl; below = λ c l. absurd (omega arith) }
 
 -- one small number
-small-one : (x : ℕ) → x < 65536 → Small 1 (x ∷ [])
+pub small-one : (x : ℕ) → x < 65536 → Small 1 (x ∷ [])
 small-one x l = record { long = refl; below = go }
   where
     go : (c : ℕ) → c < 1 → at (x ∷ []) c < 65536
@@ -246,7 +246,7 @@ small-one x l = record { long = refl; below = go }
     go (suc c) h = absurd (omega arith)
 
 -- small numbers one after another are small
-small-append : {m n : ℕ} {xs ys : List ℕ} (k : ℕ) → k ≡ m + n → Small m xs → Small n ys → Small k (xs ++ ys)
+pub small-append : {m n : ℕ} {xs ys : List ℕ} (k : ℕ) → k ≡ m + n → Small m xs → Small n ys → Small k (xs ++ ys)
 small-append {xs} {ys} k e s t = record {
   long = simp length-append (omega arith);
   below = λ c l. go c (decLt c (length xs)) (simp length-append at l);

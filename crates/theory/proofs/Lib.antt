@@ -1,6 +1,6 @@
 -- The theorems about the definitions of specs/, bottom up: a file cites only files above it. First numbers, lists and
 -- meshes in general, then the splitting, then readings, then the calls and the demands, then what an undo builds; the
--- frames stand for themselves; last, that readings are decided.
+-- frames and the index texts stand for themselves; last, that readings are decided.
 pub mod Tests
 pub mod Finite
 pub mod Counting
@@ -35,5 +35,7 @@ pub mod Sound
 pub mod Reader
 pub mod Frames
 pub mod FrameDemands
+pub mod Index
+pub mod IndexDemands
 pub mod ReadingTests
 pub mod Undoing

@@ -28,7 +28,7 @@ within-limits m n a b e =
     (ltb-false m a neither.0, ltb-false n b neither.1)
 
 -- and if one passes it, one is above its limit
-above-limits : (m n a b : ℕ) → ltb m a || ltb n b ≡ true → (m < a) ⊎ (n < b)
+pub above-limits : (m n a b : ℕ) → ltb m a || ltb n b ≡ true → (m < a) ⊎ (n < b)
 above-limits m n a b e = go (ltb m a) refl e
   where
     go : (t : Bool) → ltb m a ≡ t → t || ltb n b ≡ true → (m < a) ⊎ (n < b)
@@ -157,7 +157,7 @@ data Given (room : ℕ) (bytes : List ℕ) : Frames → Type 0 where
   accepts : (N : ℕ) (T : List ℕ) → Passed (readRules room bytes) × LinesSay bytes N T → Given room bytes (mesh N T)
 
 -- what is true of both choices of a test is true of the one taken
-by-test : {B : Type 0} (P : B → Type 0) {x y : B} (t : Bool) → (t ≡ true → P x) → (t ≡ false → P y)
+pub by-test : {B : Type 0} (P : B → Type 0) {x y : B} (t : Bool) → (t ≡ true → P x) → (t ≡ false → P y)
     → P (elim t [ true ↦ x | false ↦ y ])
 by-test P true p q = p refl
 by-test P false p q = q refl

@@ -1,7 +1,7 @@
 -- The laws of rows and of lists of rows: a list is not both passed and refused, it refuses with one number at one
 -- place, and of two lists one after the other the second judges where the first is passed. Then what each row says where
--- it is not given: 1 to 4; the room, where the shortest work buffer decides for all; and 6 to 10, of which none is given
--- exactly if the mesh is proper.
+-- it is not given: 1 to 4; the room, where the shortest work buffer decides for all; 2, 4 and 5 of what is written; and
+-- 6 to 10, of which none is given exactly if the mesh is proper.
 use Prim.Native.Nat.{ℕ, _+_, _*_, _/_, _%_, _≤_, _<_, min}
 use native.Mathlib.Omega.{arith}
 use native.Mathlib.Decide.{ℕ-discrete, decLt}
@@ -9,11 +9,11 @@ use mathlib.Core.Path.{_≡_, refl, sym, _∙_}
 use mathlib.Core.Logic.{_≢_, _⊎_, inl, inr}
 use mathlib.Core.List.{List, [], _∷_, _++_}
 use lib.ListN.{length}
-use Rattle.theory.specs.Limits.{mostVertices}
+use Rattle.theory.specs.Limits.{mostTriangles, mostVertices}
 use Rattle.theory.specs.Mesh.{at, triangles, On, Same, Reach, Proper}
 use Rattle.theory.specs.Refusals.{CornerNotBelow, EqualCorners, SameAsEarlier, InNoTriangle, NotConnected}
 use Rattle.theory.specs.Refusals.{Rule, Room, Short, noPlace, askedTooMuch, notThrees, noTriangle, tooLarge}
-use Rattle.theory.specs.Refusals.{sizeRules, meshRules, LeastPlace, Passed, Refused}
+use Rattle.theory.specs.Refusals.{tooShort, sizeRules, meshRules, LeastPlace, Passed, Refused}
 use Rattle.theory.specs.Calls.{workEntries, workRooms}
 use Rattle.theory.proofs.Finite.{neither-less, find-below}
 use Rattle.theory.proofs.Mesh.{on-corner, same-sym}
@@ -59,6 +59,21 @@ unfolding Refused
 refused-above [] n p f l = absurd f
 refused-above (rule ∷ rules) n p (inl (same, _)) l = omega arith
 refused-above (rule ∷ rules) n p (inr (_, f)) l = refused-above rules n p f (omega arith)
+
+-- The number is that of one of the rows.
+abbrev pub NumberOf : List Rule → ℕ → Type 0
+NumberOf [] n = ⊥
+NumberOf (rule ∷ []) n = n ≡ rule .number
+NumberOf (rule ∷ next ∷ rules) n = (n ≡ rule .number) ⊎ NumberOf (next ∷ rules) n
+
+-- rows refuse with the number of one of them
+pub refused-number : (rules : List Rule) (n p : ℕ) → Refused rules n p → NumberOf rules n
+unfolding Refused
+refused-number [] n p f = f
+refused-number (rule ∷ []) n p (inl (same, _)) = same
+refused-number (rule ∷ []) n p (inr (_, f)) = absurd f
+refused-number (rule ∷ next ∷ rules) n p (inl (same, _)) = inl same
+refused-number (rule ∷ next ∷ rules) n p (inr (_, f)) = inr (refused-number (next ∷ rules) n p f)
 
 -- ---- two lists of rows, one after the other
 
@@ -261,6 +276,43 @@ module _ (N F : ℕ) where
 -- "each is at most 64 times (V + F) entries, so that enough can always be lent"
 pub work-entries-at-most : (N F : ℕ) → workEntries N F ≤ 64 * (N + F)
 work-entries-at-most N F = omega arith
+
+-- ---- the rows of what is written
+
+-- The rows of writing a list of so many entries into one buffer: 2, 4 and 5.
+abbrev pub writingRules : ℕ → ℕ → Room → List Rule
+writingRules N entries room =
+    notThrees entries ∷ tooLarge mostTriangles N (entries / 3) ∷ tooShort (room ∷ []) ∷ []
+
+-- A list of so many entries that can be written: whole, within the limits, and the room is enough.
+pub record Fitting (N entries : ℕ) (room : Room) : Type 0 where
+  pub whole : entries ≡ 3 * (entries / 3)
+  pub few : entries / 3 ≤ mostTriangles
+  pub low : N ≤ mostVertices
+  pub fits : room .needed ≤ room .lent
+
+-- it is refused by no row
+pub fitting-passed : (N entries : ℕ) (room : Room) → Fitting N entries room → Passed (writingRules N entries room)
+unfolding Passed
+fitting-passed N entries room W = (
+  λ place g. g .0 (omega (arith, W .whole)),
+  (
+    λ place g. within-large (W .few) (W .low) (g .0),
+    ((λ place g. fits-none-short (room ∷ []) (W .fits, tt) (g .0)), tt),
+  ),
+)
+
+-- and what is refused by no row is such a list
+pub passed-fitting : (N entries : ℕ) (room : Room) → Passed (writingRules N entries room) → Fitting N entries room
+unfolding Passed
+passed-fitting N entries room passed =
+    let limits = large-within mostTriangles N (entries / 3) (passed .1 .0) in
+    record {
+      whole = omega (arith, threes-whole entries (passed .0));
+      few = limits .0;
+      low = limits .1;
+      fits = none-short-fits (room ∷ []) (not-given (Short (room ∷ [])) (passed .1 .1 .0)) .0;
+    }
 
 -- ---- the rows 6 to 10
 

@@ -1,6 +1,6 @@
--- The words in which demands 2 and 3, and the like of frames, are said and that document 01's rules do not need. The
--- theorems are in `proofs/Demands`, `proofs/SeveralDemands` and `proofs/FrameDemands`; no contract speaks of anything
--- here.
+-- The words in which demands 2 and 3, and the like of frames and of index texts, are said and that the rules do not
+-- need. The theorems are in `proofs/Demands`, `proofs/SeveralDemands`, `proofs/FrameDemands` and `proofs/IndexDemands`;
+-- no contract speaks of anything here.
 use Prim.Native.Nat.{ℕ, zero, suc, _+_, _*_, _≤_, _<_}
 use mathlib.Core.Path.{_≡_}
 use mathlib.Core.Logic.{_⊎_, _↔_}
@@ -13,6 +13,7 @@ use Rattle.theory.specs.Reading.{Matched, Reading}
 use Rattle.theory.specs.Refusals.{Room, Short}
 use Rattle.theory.specs.Calls.{Answer, OneAnswer, SeveralAnswer, Outputs, accepted, written, zeros, Splits}
 use Rattle.theory.specs.Frames.{FramesAnswer}
+use Rattle.theory.specs.Index.{faces, textSays, indexText, TextAnswer}
 
 -- "room enough lent": no lent buffer is shorter than needed.
 abbrev pub Enough : List Room → Type 0
@@ -40,6 +41,16 @@ foundCorners answer out = take (3 * answer .triangles) out
 -- The frames that writing wrote, as a caller finds them: "11 + 15F bytes", F being the answer's.
 abbrev pub foundBytes : FramesAnswer → List ℕ → List ℕ
 foundBytes answer out = take (11 + 15 * answer .triangles) out
+
+-- The text that writing an index list wrote, as a caller finds it: so many bytes as the answer says.
+abbrev pub foundText : TextAnswer → List ℕ → List ℕ
+foundText answer out = take (answer .bytes) out
+
+-- "a normal spelling": the text is what writing makes of the mesh that it says.
+pub record NormalSpelling (text : List ℕ) : Type 0 where
+  pub list : List ℕ
+  pub says : textSays text ≡ faces list
+  pub spelled : text ≡ indexText list
 
 -- The reading that undo one of (N, T) wrote, as a caller finds it: the mesh, and V and F entries of the two maps.
 abbrev pub foundReading : ℕ → List ℕ → OneAnswer → Outputs → Reading

@@ -1,4 +1,4 @@
--- The sizes that document 01 names, each once. The code's limits type is tied to these by contracts.
+-- The sizes that documents 01 and 02 name, each once. The code's limits type is tied to these by contracts.
 use Prim.Native.Nat.{ℕ}
 
 -- refusal 4: "F above 16,384"
@@ -32,3 +32,7 @@ programTriangles = 1024
 -- ".. and 1,026 vertices"
 abbrev pub programVertices : ℕ
 programVertices = 1026
+
+-- #101's refusal 14: "a corner above 65,535"
+abbrev pub mostCorner : ℕ
+mostCorner = 65535

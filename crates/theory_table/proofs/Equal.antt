@@ -7,6 +7,7 @@ use mathlib.Core.List.{List, [], _∷_}
 use lib.Dec.{T as So, eqb, eqb→eq}
 use Rattle.theory.specs.Calls.{Answer, OneAnswer, SeveralAnswer, Outputs}
 use Rattle.theory.specs.Frames.{FramesAnswer}
+use Rattle.theory.specs.Index.{TextAnswer}
 use Rattle.theory.proofs.Tests.{and-sound, and₃-sound}
 
 -- entry by entry
@@ -66,7 +67,22 @@ equalFrames-sound a b t = joined (fours-sound _ _ _ _ _ _ _ _ t)
         (record { refusal = n; place = q; vertices = M; triangles = G })
     joined (d, e, f, g) = cc
 
--- and the role
+-- and the bytes
+unfoldable pub equalTexts : TextAnswer → TextAnswer → Bool
+unfolding equalFrames
+equalTexts a b = equalFrames (a .common) (b .common) && eqb (a .bytes) (b .bytes)
+
+pub equalTexts-sound : (a b : TextAnswer) → So (equalTexts a b) → a ≡ b
+unfolding equalTexts
+equalTexts-sound a b t =
+    let both = and-sound (equalFrames (a .common) (b .common)) (eqb (a .bytes) (b .bytes)) t in
+    joined (equalFrames-sound (a .common) (b .common) (both .0)) (eqb→eq (a .bytes) (b .bytes) (both .1))
+  where
+    joined : {d e : FramesAnswer} {m n : ℕ} → d ≡ e → m ≡ n
+        → Path TextAnswer (record { common = d; bytes = m }) (record { common = e; bytes = n })
+    joined f g = cc
+
+-- or the role
 unfoldable pub equalOnes : OneAnswer → OneAnswer → Bool
 unfolding equalAnswers
 equalOnes a b = equalAnswers (a .common) (b .common) && eqb (a .role) (b .role)

@@ -1,6 +1,7 @@
 -- Document 01, "Meshes to try": "The starred meshes form a single table under a single proved claim." Here are the
--- rows, what one row claims, and the table. That every row of it holds is `starred-holds` in `proofs/Table`.
--- To add a row is one line of `starred`.
+-- rows, what one row claims, and the table; and one more table, the index texts of document 02's #101. That every row
+-- holds is `starred-holds` and `index-texts-hold` in `proofs/Table`. To add a row is one line of `starred` or
+-- `indexTexts`.
 use Prim.Native.Nat.{ℕ, zero, suc, _≤_}
 use Prim.Native.Char.{code}
 use Prim.Native.String.{String, len, charAt}
@@ -12,17 +13,21 @@ use Rattle.theory.specs.Calls.{Answer, OneAnswer, SeveralAnswer, Outputs, refus
 use Rattle.theory.specs.Calls.{severalRefusal, severalAccepted, written, zeros}
 use Rattle.theory.specs.Calls.{lentToSplit, Splits, lentToUndoOne, UndoesOne, lentToUndoSeveral, UndoesSeveral}
 use Rattle.theory.specs.Frames.{FramesAnswer, framesRefusal, framesAccepted, ReadsFrames}
+use Rattle.theory.specs.Index.{TextAnswer, textRefusal, textAccepted, ReadsIndex, WritesIndex}
 use Rattle.theory.specs.Demands.{Enough}
 
 -- ---- rows
 
 -- A row: the call with its input, its answer, and the entries that it writes in front of each output buffer (a refusal
--- writes none). Reading also says for how many entries there must be room.
+-- writes none). Reading also says for how many entries there must be room, and the calls for index texts how many
+-- entries or bytes are lent.
 pub data Row : Type 0 where
   splits : (N : ℕ) (T : List ℕ) (answer : Answer) (new : List ℕ) → Row
   undoesOne : (N : ℕ) (T : List ℕ) (asked : ℕ) (answer : OneAnswer) (new : Outputs) → Row
   undoesSeveral : (N : ℕ) (T : List ℕ) (asked : ℕ) (answer : SeveralAnswer) (new : List ℕ) → Row
   reads : (room : ℕ) (bytes : List ℕ) (answer : FramesAnswer) (new : List ℕ) → Row
+  readsIndex : (N : ℕ) (text : List ℕ) (lent : ℕ) (answer : FramesAnswer) (new : List ℕ) → Row
+  writesIndex : (N : ℕ) (T : List ℕ) (lent : ℕ) (answer : TextAnswer) (new : List ℕ) → Row
 
 -- What a refusal of undo one writes.
 abbrev pub nothingWritten : Outputs
@@ -52,6 +57,10 @@ Satisfied (undoesSeveral N T asked answer new) =
     → UndoesSeveral N T asked out works answer (written new out) (map zeros works)
 Satisfied (reads room bytes answer new) =
     (out : List ℕ) → room ≤ length out → ReadsFrames bytes out answer (written new out)
+Satisfied (readsIndex N text lent answer new) =
+    (out : List ℕ) → length out ≡ lent → ReadsIndex N text out answer (written new out)
+Satisfied (writesIndex N T lent answer new) =
+    (out : List ℕ) → length out ≡ lent → WritesIndex N T out answer (written new out)
 
 -- Every result that satisfies the call's promise on the row's input, where room enough is lent, is the row's.
 unfoldable pub Only : Row → Type 0
@@ -69,6 +78,12 @@ Only (undoesSeveral N T asked answer new) =
     → (a ≡ answer) × (o ≡ written new out) × (w ≡ map zeros works)
 Only (reads room bytes answer new) =
     (out : List ℕ) → room ≤ length out → (a : FramesAnswer) (o : List ℕ) → ReadsFrames bytes out a o
+    → (a ≡ answer) × (o ≡ written new out)
+Only (readsIndex N text lent answer new) =
+    (out : List ℕ) → length out ≡ lent → (a : FramesAnswer) (o : List ℕ) → ReadsIndex N text out a o
+    → (a ≡ answer) × (o ≡ written new out)
+Only (writesIndex N T lent answer new) =
+    (out : List ℕ) → length out ≡ lent → (a : TextAnswer) (o : List ℕ) → WritesIndex N T out a o
     → (a ≡ answer) × (o ≡ written new out)
 
 -- What a row claims: its result is what the call's promise allows on the row's input, and all that it allows.
@@ -91,10 +106,15 @@ unfoldable pub bytesFrom : String → ℕ → ℕ → List ℕ
 bytesFrom text i zero = []
 bytesFrom text i (suc n) = code (charAt text i) ∷ bytesFrom text (suc i) n
 
+-- A text as bytes.
+unfoldable pub textBytes : String → List ℕ
+unfolding bytesFrom
+textBytes text = bytesFrom text 0 (len text)
+
 -- A text and LF, as bytes.
 unfoldable pub textLine : String → List ℕ
-unfolding bytesFrom
-textLine text = bytesFrom text 0 (len text) ++ (10 ∷ [])
+unfolding textBytes
+textLine text = textBytes text ++ (10 ∷ [])
 
 -- The sample input, as bytes.
 unfoldable pub sampleBytes : List ℕ
@@ -160,3 +180,64 @@ starred =
     ++ eachRefuses 2 (0 ∷ 1 ∷ 2 ∷ []) 6 0
     -- "(0,0,1), V = 2: 7, place 0."
     ++ eachRefuses 2 (0 ∷ 0 ∷ 1 ∷ []) 7 0
+
+-- ---- index texts
+
+-- Two rows: the text says this list for V = 9, with room for 6 entries, and that is written again in its normal
+-- spelling, with room for 30 bytes.
+abbrev pub readAndWritten : List ℕ → ℕ → List ℕ → List ℕ → List Row
+readAndWritten text F T spelling =
+    readsIndex 9 text 6 (framesAccepted 9 F) T
+    ∷ writesIndex 9 T 30 (textAccepted 9 F (length spelling)) spelling
+    ∷ []
+
+-- A row: the text is refused 14 at a place.
+abbrev pub refusedAt : ℕ → List ℕ → Row
+refusedAt place text = readsIndex 9 text 6 (framesRefusal 14 place) []
+
+-- The examples of #101 as they were decided ("V = 9, room for 6 entries"), each under its words.
+unfoldable pub indexTexts : List Row
+unfolding textBytes
+indexTexts =
+    -- "`0 1 2` is F 1; `0 1 2 -1,3,4,5,-1` is F 2"
+    readAndWritten (textBytes "0 1 2") 1 (0 ∷ 1 ∷ 2 ∷ []) (textBytes "0 1 2 -1")
+    ++ readAndWritten (textBytes "0 1 2 -1,3,4,5,-1") 2 (0 ∷ 1 ∷ 2 ∷ 3 ∷ 4 ∷ 5 ∷ []) (textBytes "0 1 2 -1 3 4 5 -1")
+    -- "`0 1`: 14 at 3; `0 1 `: 14 at 4; `-1`: 14 at 0; `0 1 2 -1 -1`: 14 at 9; `0 1 2 3`: 14 at 6"
+    ++ refusedAt 3 (textBytes "0 1")
+    ∷ refusedAt 4 (textBytes "0 1 ")
+    ∷ refusedAt 0 (textBytes "-1")
+    ∷ refusedAt 9 (textBytes "0 1 2 -1 -1")
+    ∷ refusedAt 6 (textBytes "0 1 2 3")
+    -- "`0 1 65536`: 14 at 4; `0 1 2#-1` CR `3 4 5`: 14 at 9; `#a` CR `0 1 2`: F 1"
+    ∷ refusedAt 4 (textBytes "0 1 65536")
+    ∷ refusedAt 9 (textBytes "0 1 2#-1" ++ (13 ∷ textBytes "3 4 5"))
+    ∷ readAndWritten (textBytes "#a" ++ (13 ∷ textBytes "0 1 2")) 1 (0 ∷ 1 ∷ 2 ∷ []) (textBytes "0 1 2 -1")
+    -- "`x` with V = 40,000: 14 at 0", and without a fault 4
+    ++ readsIndex 40000 (textBytes "x") 6 (framesRefusal 14 0) []
+    ∷ readsIndex 40000 (textBytes "0 1 2") 6 (framesRefusal 4 0) []
+    -- "5 (3F entries)"
+    ∷ readsIndex 9 (textBytes "0 1 2 -1 3 4 5") 5 (framesRefusal 5 0) []
+    -- "the value must not wrap (`65536`, `4294967297`, `18446744073709551616` are at fault, `0000000000000000000007` is
+    -- 7)"
+    ∷ refusedAt 0 (textBytes "4294967297")
+    ∷ refusedAt 0 (textBytes "18446744073709551616")
+    ∷ readAndWritten (textBytes "0000000000000000000007 65535,0") 1 (7 ∷ 65535 ∷ 0 ∷ []) (textBytes "7 65535 0 -1")
+    -- "`-01`, `+1`, `-2`, `0x1F`, `1.0`, `[`, `1-1`, other white space, a byte order mark: at fault"
+    ++ refusedAt 0 (textBytes "-01")
+    ∷ refusedAt 0 (textBytes "+1")
+    ∷ refusedAt 0 (textBytes "-2")
+    ∷ refusedAt 0 (textBytes "0x1F")
+    ∷ refusedAt 0 (textBytes "1.0")
+    ∷ refusedAt 0 (textBytes "[")
+    ∷ refusedAt 0 (textBytes "1-1")
+    ∷ refusedAt 0 (12 ∷ [])
+    ∷ refusedAt 0 (239 ∷ 187 ∷ 191 ∷ textBytes "0 1 2")
+    -- "Empty text, separators or comments alone: accepted with F = 0", "F = 0 writes nothing"
+    ∷ readAndWritten [] 0 [] []
+    ++ readAndWritten (textBytes " , # 0 1 2") 0 [] []
+    -- "Writing (0,1,2),(10,65535,3) takes 22 bytes; 21 lent: 5."
+    ++ writesIndex 9 (0 ∷ 1 ∷ 2 ∷ 10 ∷ 65535 ∷ 3 ∷ []) 22 (textAccepted 9 2 22) (textBytes "0 1 2 -1 10 65535 3 -1")
+    ∷ writesIndex 9 (0 ∷ 1 ∷ 2 ∷ 10 ∷ 65535 ∷ 3 ∷ []) 21 (textRefusal 5 0) []
+    ∷ writesIndex 9 (0 ∷ 1 ∷ []) 30 (textRefusal 2 0) []
+    ∷ writesIndex 40000 (0 ∷ 1 ∷ 2 ∷ []) 30 (textRefusal 4 0) []
+    ∷ []
