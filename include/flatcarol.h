@@ -1,7 +1,7 @@
 /*
  * Flatcarol: splits a triangle mesh, and recognises and undoes such a split, one level or several.
  *
- * The five calls of libflatcarol.a, for C99 and later and C++11 and later, on x86-64 Linux and on 64-bit Arm Linux. In
+ * The seven calls of libflatcarol.a, for C99 and later and C++11 and later, on x86-64 Linux and on 64-bit Arm Linux. In
  * the repository docs/CALLS.md has a page on each with an example, and examples/c/ a whole program. What the archive's
  * functions promise is proved; this header is outside of every proof, and is tested.
  *
@@ -12,8 +12,8 @@
  *
  * - Every input gets an answer: bad input is refused with a number and a place. All that a caller has to see to is in
  *   the next three rules.
- * - A buffer is a pointer and a length. Lengths are in entries, and of frames in bytes. Entries are 16-bit and aligned
- *   so. There must be as many entries as the length says.
+ * - A buffer is a pointer and a length. Lengths are in entries, and of frames and index texts in bytes. Entries are
+ *   16-bit and aligned so. There must be as many entries as the length says.
  * - Buffers must not overlap, the list that is read included.
  * - An empty buffer still needs a pointer that is not null and is aligned. (The calls that end in _in, below, take a
  *   null pointer for an empty buffer.)
@@ -40,7 +40,7 @@ extern "C" {
 
 /* ---- answers */
 
-/* What split and the calls for frames answer. In a refusal all but the first two numbers are 0. */
+/* What split, the calls for frames and read index answer. In a refusal all but the first two numbers are 0. */
 typedef struct flatcarol_answer {
     uint64_t refusal;   /* 0 when accepted, else one of enum flatcarol_refusal */
     uint64_t place;     /* where it was refused, as the refusal says; else 0 */
@@ -67,8 +67,17 @@ typedef struct flatcarol_several_answer {
     uint8_t roles[7]; /* the role taken at each level, first undone first; 0 in the places behind */
 } flatcarol_several_answer;
 
+/* What write index answers. */
+typedef struct flatcarol_text_answer {
+    uint64_t refusal;
+    uint64_t place;
+    uint64_t vertices;
+    uint64_t triangles;
+    uint64_t bytes; /* how many were written */
+} flatcarol_text_answer;
+
 /* Refusals are checked in the order of their numbers, over the whole list: a 6 at the last triangle comes before a 7
-   at the first. The place is 0 where none is named. */
+   at the first. The calls that read alone differ, see there. The place is 0 where none is named. */
 enum flatcarol_refusal {
     FLATCAROL_ACCEPTED = 0,
     FLATCAROL_ASKED_TOO_MUCH = 1,   /* asked above 4 (undo one) or above 7 (undo several) */
@@ -83,7 +92,10 @@ enum flatcarol_refusal {
     FLATCAROL_NOT_CONNECTED = 10,   /* not connected to triangle 0; place: least triangle */
     FLATCAROL_NO_READING = 11,      /* no reading in the role asked (asked 4: in any) */
     FLATCAROL_WRONG_FRAME = 12,     /* a frame not as required; place: least such line, from 0 */
-    FLATCAROL_INPUT_TOO_LONG = 13   /* program input above 16,384 bytes: given by the program unsplit, by no call */
+    FLATCAROL_INPUT_TOO_LONG = 13,  /* program input above 16,384 bytes: given by the program unsplit, by no call */
+    FLATCAROL_WRONG_TEXT = 14       /* text not of this form, a corner above 65,535 or a face not of three corners;
+                                       place: first byte of the first run at fault, or the text's length if corners
+                                       are missing */
 };
 
 /* The same words as text, for a message. */
@@ -104,6 +116,7 @@ static inline const char *flatcarol_refusal_text(uint64_t refusal)
     case FLATCAROL_NO_READING: return "no reading in the role asked (asked 4: in any)";
     case FLATCAROL_WRONG_FRAME: return "a frame not as required";
     case FLATCAROL_INPUT_TOO_LONG: return "program input above 16,384 bytes";
+    case FLATCAROL_WRONG_TEXT: return "text not of this form, a corner above 65,535 or a face not of three corners";
     default: return "no refusal has this number";
     }
 }
@@ -147,6 +160,25 @@ static inline size_t flatcarol_undo_one_work(uint64_t vertices, uint64_t triangl
 static inline size_t flatcarol_undo_several_work(uint64_t vertices, uint64_t triangles)
 {
     return FLATCAROL_UNDO_SEVERAL_BUFFERS * flatcarol_work_each(vertices, triangles);
+}
+
+/* ---- room for index texts
+
+   Of a mesh above the limits no more than of one at the limits, as it is refused 4 whatever is lent. */
+
+/* The entries that read index needs at most for a text of so many bytes. A face takes at least the nine bytes of
+   "0 1 2 -1" and a separator, but the last one only the five of "0 1 2". */
+static inline size_t flatcarol_read_index_most(size_t text_len)
+{
+    const size_t faces = text_len / 9 + (text_len % 9 >= 5 ? 1 : 0);
+    return 3 * (faces < FLATCAROL_MOST_TRIANGLES ? faces : FLATCAROL_MOST_TRIANGLES);
+}
+
+/* The bytes that write index needs at most: for each triangle three corners of five digits and -1, with a blank after
+   each of the four. */
+static inline size_t flatcarol_write_index_most(uint64_t triangles)
+{
+    return 21 * (triangles < FLATCAROL_MOST_TRIANGLES ? triangles : FLATCAROL_MOST_TRIANGLES);
 }
 
 /* ---- the calls, as the archive has them */
@@ -211,6 +243,23 @@ flatcarol_answer flatcarol_read_frames(
 /* Writes a mesh, which may have no triangle and whose corners are not judged, as frames. They go to the first bytes of
    out, which needs 11 + 15F. Refusals 2, 4 and 5. */
 flatcarol_answer flatcarol_write_frames(
+    uint64_t vertices,
+    const uint16_t *list, size_t list_len,
+    uint8_t *out, size_t out_len);
+
+/* Reads a mesh of so many vertices from its index text, the coordIndex of an IndexedFaceSet in VRML97: decimal numbers
+   with blanks, tabs, CR, LF or commas between them, -1 after each face, where the last may be missing, and comments
+   from # to the end of the line. The corners, which are not judged against the number of vertices, go to the first
+   entries of out, which needs 3F. Refusals 14 for the whole text, then 4 and 5. */
+flatcarol_answer flatcarol_read_index(
+    uint64_t vertices,
+    const uint8_t *text, size_t text_len,
+    uint16_t *out, size_t out_len);
+
+/* Writes a mesh, which may have no triangle and whose corners are not judged, as an index text: 0 1 2 -1 0 2 3 -1. It
+   goes to the first bytes of out, which needs as many as are written, with no zero byte after them. Refusals 2, 4 and
+   5. */
+flatcarol_text_answer flatcarol_write_index(
     uint64_t vertices,
     const uint16_t *list, size_t list_len,
     uint8_t *out, size_t out_len);
@@ -342,6 +391,13 @@ FLATCAROL_HOLDS(several_answer_vertices, offsetof(flatcarol_several_answer, vert
 FLATCAROL_HOLDS(several_answer_triangles, offsetof(flatcarol_several_answer, triangles) == 24);
 FLATCAROL_HOLDS(several_answer_levels, offsetof(flatcarol_several_answer, levels) == 32);
 FLATCAROL_HOLDS(several_answer_roles, offsetof(flatcarol_several_answer, roles) == 40);
+
+FLATCAROL_HOLDS(text_answer_size, sizeof(flatcarol_text_answer) == 40);
+FLATCAROL_HOLDS(text_answer_refusal, offsetof(flatcarol_text_answer, refusal) == 0);
+FLATCAROL_HOLDS(text_answer_place, offsetof(flatcarol_text_answer, place) == 8);
+FLATCAROL_HOLDS(text_answer_vertices, offsetof(flatcarol_text_answer, vertices) == 16);
+FLATCAROL_HOLDS(text_answer_triangles, offsetof(flatcarol_text_answer, triangles) == 24);
+FLATCAROL_HOLDS(text_answer_bytes, offsetof(flatcarol_text_answer, bytes) == 32);
 
 #undef FLATCAROL_HOLDS
 

@@ -1,6 +1,7 @@
 // Every refusal that is judged from numbers, at the boundaries of these: of V, F, the list's length, what is asked, and the length
 // of each buffer.
 use crate::checker::{Checked, Checker};
+use crate::index;
 use crate::meshes::{splitting, strip, Mesh};
 use crate::room::Room;
 
@@ -47,6 +48,14 @@ pub fn check(checker: &mut Checker, number: usize) -> Checked {
     let needed = 11 + 15 * triangles;
     for length in [needed, needed - 1, needed + 1, needed + 15, 11, 10, 0] {
         checker.write_frames(&mesh, length)?;
+    }
+    let text = index::text(&mesh);
+    for length in [text.len(), text.len().saturating_sub(1), text.len() + 1, 21 * triangles, 0] {
+        checker.write_index(&mesh, length)?;
+    }
+    let entries = 3 * triangles;
+    for length in [entries, entries.saturating_sub(1), entries + 1, 0] {
+        checker.read_index(vertices, &text, length)?;
     }
     Ok(())
 }

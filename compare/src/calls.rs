@@ -1,5 +1,5 @@
 // The calls that are compared: the library's, or in a test of the comparison itself those of a wrong implementation.
-use flatcarol::raw::{self, Answer, OneAnswer, OneOutputs, SeveralAnswer, Work, ONE_WORK, SEVERAL_WORK, SPLIT_WORK};
+use flatcarol::raw::{self, Answer, OneAnswer, OneOutputs, SeveralAnswer, TextAnswer, Work, ONE_WORK, SEVERAL_WORK, SPLIT_WORK};
 
 pub trait Calls: Sync {
     fn split(&self, vertices: u64, list: &[u16], out: &mut [u16], work: Work<SPLIT_WORK>) -> Answer;
@@ -7,6 +7,8 @@ pub trait Calls: Sync {
     fn undo_several(&self, vertices: u64, list: &[u16], asked: u64, out: &mut [u16], work: Work<SEVERAL_WORK>) -> SeveralAnswer;
     fn read_frames(&self, bytes: &[u8], out: &mut [u16]) -> Answer;
     fn write_frames(&self, vertices: u64, list: &[u16], out: &mut [u8]) -> Answer;
+    fn read_index(&self, vertices: u64, text: &[u8], out: &mut [u16]) -> Answer;
+    fn write_index(&self, vertices: u64, list: &[u16], out: &mut [u8]) -> TextAnswer;
 }
 
 // The proved library.
@@ -31,5 +33,13 @@ impl Calls for Library {
 
     fn write_frames(&self, vertices: u64, list: &[u16], out: &mut [u8]) -> Answer {
         raw::write_frames(vertices, list, out)
+    }
+
+    fn read_index(&self, vertices: u64, text: &[u8], out: &mut [u16]) -> Answer {
+        raw::read_index(vertices, text, out)
+    }
+
+    fn write_index(&self, vertices: u64, list: &[u16], out: &mut [u8]) -> TextAnswer {
+        raw::write_index(vertices, list, out)
     }
 }

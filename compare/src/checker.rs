@@ -2,7 +2,7 @@
 // entry of every lent buffer, and the input.
 use std::fmt::Debug;
 
-use flatcarol::raw::{Answer, OneAnswer, OneOutputs, SeveralAnswer, SEVERAL_WORK};
+use flatcarol::raw::{Answer, OneAnswer, OneOutputs, SeveralAnswer, TextAnswer, SEVERAL_WORK};
 use reference::{OneRoom, Search};
 
 use crate::calls::Calls;
@@ -21,8 +21,8 @@ const EXHAUSTIVE: usize = 12;
 // The entries of a list that a report has in full.
 const IN_FULL: usize = 600;
 
-// The most bytes that are lent.
-const MOST_BYTES: usize = 2 * MOST;
+// The most bytes that are lent: more than the longest text has, an index text of many separators and comments.
+const MOST_BYTES: usize = 5 * MOST;
 
 const OUTPUTS: usize = 3;
 // Undo several has the most work buffers.
@@ -137,31 +137,71 @@ impl<'a> Checker<'a> {
     }
 
     pub fn read_frames(&mut self, bytes: &[u8], length: usize) -> Checked {
-        let (expected, entries) = reference::read_frames(bytes, length);
-        let Checker { calls, random, bytes: input, outputs: [out, ..], contents, .. } = self;
-        let before = &contents.noise[random.below(BEGINNINGS)..][..length];
-        input.lend(bytes, side(random));
-        out.lend(before, side(random));
-        let found = calls.read_frames(input.lent(), out.lent_mut());
-        self.cover.answer(Call::ReadFrames, expected.refusal, expected.place);
-        same_answer(found, answer_of(expected))
-            .and_then(|()| as_written("the output", out, &entries, before))
-            .and_then(|()| as_it_was("the input", input, bytes))
-            .map_err(|what| format!("read frames, {length} entries lent, of {}:\n{what}", shown_bytes(bytes)))
+        let expected = reference::read_frames(bytes, length);
+        self.read(Call::ReadFrames, bytes, length, expected, |calls, input, out| calls.read_frames(input, out))
+    }
+
+    pub fn read_index(&mut self, vertices: u64, text: &[u8], length: usize) -> Checked {
+        let expected = reference::read_index(vertices, text, length);
+        self.read(Call::ReadIndex, text, length, expected, |calls, input, out| calls.read_index(vertices, input, out))
+            .map_err(|what| format!("{vertices} vertices, {what}"))
     }
 
     pub fn write_frames(&mut self, mesh: &Mesh, length: usize) -> Checked {
         let (expected, bytes) = reference::write_frames(mesh.vertices, &mesh.list, length);
+        self.cover.answer(Call::WriteFrames, expected.refusal, expected.place);
+        let call = |calls: &dyn Calls, list: &[u16], out: &mut [u8]| calls.write_frames(mesh.vertices, list, out);
+        self.write(Call::WriteFrames, mesh, length, (answer_of(expected), bytes), call)
+    }
+
+    pub fn write_index(&mut self, mesh: &Mesh, length: usize) -> Checked {
+        let (expected, text) = reference::write_index(mesh.vertices, &mesh.list, length);
+        self.cover.answer(Call::WriteIndex, expected.refusal, expected.place);
+        let Answer { refusal, place, vertices, triangles } = answer_of(expected);
+        let expected = TextAnswer { refusal, place, vertices, triangles, bytes: text.len() as u64 };
+        let call = |calls: &dyn Calls, list: &[u16], out: &mut [u8]| calls.write_index(mesh.vertices, list, out);
+        self.write(Call::WriteIndex, mesh, length, (expected, text), call)
+    }
+
+    // A call that reads bytes, with so many entries lent.
+    fn read(
+        &mut self,
+        name: Call,
+        bytes: &[u8],
+        length: usize,
+        (expected, entries): (reference::Answer, Vec<u16>),
+        call: impl FnOnce(&dyn Calls, &[u8], &mut [u16]) -> Answer,
+    ) -> Checked {
+        let Checker { calls, random, bytes: input, outputs: [out, ..], contents, .. } = self;
+        let before = &contents.noise[random.below(BEGINNINGS)..][..length];
+        input.lend(bytes, side(random));
+        out.lend(before, side(random));
+        let found = call(*calls, input.lent(), out.lent_mut());
+        self.cover.answer(name, expected.refusal, expected.place);
+        same_answer(found, answer_of(expected))
+            .and_then(|()| as_written("the output", out, &entries, before))
+            .and_then(|()| as_it_was("the input", input, bytes))
+            .map_err(|what| format!("{}, {length} entries lent, of {}:\n{what}", name.name(), shown_bytes(bytes)))
+    }
+
+    // A call that writes bytes, with so many lent.
+    fn write<A: PartialEq + Debug>(
+        &mut self,
+        name: Call,
+        mesh: &Mesh,
+        length: usize,
+        (expected, bytes): (A, Vec<u8>),
+        call: impl FnOnce(&dyn Calls, &[u16], &mut [u8]) -> A,
+    ) -> Checked {
         let Checker { calls, random, list, bytes: out, contents, .. } = self;
         let before = &contents.noise_bytes[random.below(BEGINNINGS)..][..length];
         list.lend(&mesh.list, side(random));
         out.lend(before, side(random));
-        let found = calls.write_frames(mesh.vertices, list.lent(), out.lent_mut());
-        self.cover.answer(Call::WriteFrames, expected.refusal, expected.place);
-        same_answer(found, answer_of(expected))
+        let found = call(*calls, list.lent(), out.lent_mut());
+        same_answer(found, expected)
             .and_then(|()| as_written("the output", out, &bytes, before))
             .and_then(|()| as_it_was("the input", list, &mesh.list))
-            .map_err(|what| format!("write frames, {length} bytes lent, of {}:\n{what}", shown(mesh)))
+            .map_err(|what| format!("{}, {length} bytes lent, of {}:\n{what}", name.name(), shown(mesh)))
     }
 
     // The reference's result. Of a small mesh it has two searches, which are compared with each other first.

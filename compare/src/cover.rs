@@ -9,16 +9,27 @@ pub enum Call {
     UndoSeveral,
     ReadFrames,
     WriteFrames,
+    ReadIndex,
+    WriteIndex,
     Program,
 }
 
-const CALLS: [Call; 6] = [Call::Split, Call::UndoOne, Call::UndoSeveral, Call::ReadFrames, Call::WriteFrames, Call::Program];
+const CALLS: [Call; 8] = [
+    Call::Split,
+    Call::UndoOne,
+    Call::UndoSeveral,
+    Call::ReadFrames,
+    Call::WriteFrames,
+    Call::ReadIndex,
+    Call::WriteIndex,
+    Call::Program,
+];
 
 // The refusals' numbers, and 0 for acceptance.
-const NUMBERS: usize = 14;
+const NUMBERS: usize = 15;
 
 // The refusals that name a place.
-const PLACED: [usize; 6] = [6, 7, 8, 9, 10, 12];
+const PLACED: [usize; 7] = [6, 7, 8, 9, 10, 12, 14];
 
 impl Call {
     pub fn name(self) -> &'static str {
@@ -28,18 +39,21 @@ impl Call {
             Call::UndoSeveral => "undo several",
             Call::ReadFrames => "read frames",
             Call::WriteFrames => "write frames",
+            Call::ReadIndex => "read index",
+            Call::WriteIndex => "write index",
             Call::Program => "the program",
         }
     }
 
-    // The numbers that document 01 has the call give.
+    // The numbers that the documents have the call give.
     fn numbers(self) -> &'static [usize] {
         match self {
             Call::Split => &[0, 2, 3, 4, 5, 6, 7, 8, 9, 10],
             Call::UndoOne => &[0, 1, 2, 3, 4, 5, 6, 7, 8, 9, 10, 11],
             Call::UndoSeveral => &[0, 1, 2, 3, 4, 5, 6, 7, 8, 9, 10],
             Call::ReadFrames => &[0, 4, 5, 12],
-            Call::WriteFrames => &[0, 2, 4, 5],
+            Call::WriteFrames | Call::WriteIndex => &[0, 2, 4, 5],
+            Call::ReadIndex => &[0, 4, 5, 14],
             Call::Program => &[0, 3, 4, 5, 6, 7, 8, 9, 10, 11, 12, 13],
         }
     }

@@ -1,4 +1,5 @@
 // Texts of frames: as they should be, damaged, and of any bytes.
+use crate::damage;
 use crate::meshes::Mesh;
 use crate::random::Random;
 
@@ -10,18 +11,18 @@ pub struct Kind {
 // What is done to a text that is as it should be.
 pub const KINDS: &[Kind] = &[
     Kind { name: "as they should be", make: |_, text| text },
-    Kind { name: "one byte changed", make: byte_changed },
-    Kind { name: "a byte removed", make: byte_removed },
-    Kind { name: "a byte put in", make: byte_put_in },
+    Kind { name: "one byte changed", make: |random, text| damage::byte_changed(random, text, any_byte) },
+    Kind { name: "a byte removed", make: damage::byte_removed },
+    Kind { name: "a byte put in", make: |random, text| damage::byte_put_in(random, text, any_byte) },
     Kind { name: "two lines swapped", make: lines_swapped },
     Kind { name: "a line left out or repeated", make: line_left_out_or_repeated },
     Kind { name: "lower case", make: lower_case },
     Kind { name: "CR before LF", make: carriage_returns },
     Kind { name: "another count in the first line", make: other_count },
-    Kind { name: "cut short", make: cut_short },
+    Kind { name: "cut short", make: damage::cut_short },
     Kind { name: "extended", make: extended },
-    Kind { name: "any bytes", make: any_bytes },
-    Kind { name: "any digits and line ends", make: any_digits },
+    Kind { name: "any bytes", make: |random, text| damage::other_bytes(random, text, |random| random.next() as u8) },
+    Kind { name: "any digits and line ends", make: |random, text| damage::other_bytes(random, text, any_digit) },
 ];
 
 pub fn text(mesh: &Mesh) -> Vec<u8> {
@@ -54,20 +55,8 @@ fn any_byte(random: &mut Random) -> u8 {
     }
 }
 
-fn byte_changed(random: &mut Random, mut text: Vec<u8>) -> Vec<u8> {
-    let place = random.below(text.len());
-    text[place] = any_byte(random);
-    text
-}
-
-fn byte_removed(random: &mut Random, mut text: Vec<u8>) -> Vec<u8> {
-    text.remove(random.below(text.len()));
-    text
-}
-
-fn byte_put_in(random: &mut Random, mut text: Vec<u8>) -> Vec<u8> {
-    text.insert(random.between(0, text.len()), any_byte(random));
-    text
+fn any_digit(random: &mut Random) -> u8 {
+    random.pick(b"0123456789ABCDEF46\n")
 }
 
 fn lines(text: &[u8]) -> Vec<Vec<u8>> {
@@ -115,11 +104,6 @@ fn other_count(random: &mut Random, mut text: Vec<u8>) -> Vec<u8> {
     text
 }
 
-fn cut_short(random: &mut Random, mut text: Vec<u8>) -> Vec<u8> {
-    text.truncate(random.below(text.len()));
-    text
-}
-
 fn extended(random: &mut Random, mut text: Vec<u8>) -> Vec<u8> {
     match random.below(3) {
         0 => text.push(b'\n'),
@@ -127,12 +111,4 @@ fn extended(random: &mut Random, mut text: Vec<u8>) -> Vec<u8> {
         _ => text.extend((0..random.between(1, 20)).map(|_| any_byte(random)).collect::<Vec<u8>>()),
     }
     text
-}
-
-fn any_bytes(random: &mut Random, text: Vec<u8>) -> Vec<u8> {
-    (0..random.below(text.len() + 20)).map(|_| random.next() as u8).collect()
-}
-
-fn any_digits(random: &mut Random, text: Vec<u8>) -> Vec<u8> {
-    (0..random.below(text.len() + 20)).map(|_| random.pick(b"0123456789ABCDEF46\n")).collect()
 }

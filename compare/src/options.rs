@@ -2,8 +2,8 @@
 use crate::sets::Sizes;
 use crate::wrong::{Fault, FAULTS};
 
-pub const USAGE: &str = "compare [--seed N] [--threads N] [--small N] [--large N] [--frames N] [--programs N]
-    compares. The last four say how many cases; --programs 0 leaves the program out
+pub const USAGE: &str = "compare [--seed N] [--threads N] [--small N] [--large N] [--frames N] [--index N] [--programs N]
+    compares. The last five say how many cases; --programs 0 leaves the program out
 compare --set SET ..
     compares the cases of that set alone, and does not ask that every expected kind occurs; may be given several times
 compare --only SET NUMBER [--seed N]
@@ -34,7 +34,7 @@ pub struct Options {
 
 impl Default for Options {
     fn default() -> Options {
-        let sizes = Sizes { small: 120_000, large: 360, frames: 40_000, programs: 500 };
+        let sizes = Sizes { small: 120_000, large: 360, frames: 40_000, index: 60_000, programs: 500 };
         let threads = std::thread::available_parallelism().map_or(1, |threads| threads.get());
         Options { seed: 1, sizes, threads, sets: vec![], only: None, fault: None }
     }
@@ -48,6 +48,7 @@ pub fn of_words(mut words: impl Iterator<Item = String>) -> Result<Task, String>
             "--small" => options.sizes.small = number(&mut words)?,
             "--large" => options.sizes.large = number(&mut words)?,
             "--frames" => options.sizes.frames = number(&mut words)?,
+            "--index" => options.sizes.index = number(&mut words)?,
             "--programs" => options.sizes.programs = number(&mut words)?,
             "--threads" => options.threads = number(&mut words)?,
             "--set" => options.sets.push(next(&mut words)?),

@@ -5,9 +5,11 @@ use crate::boundaries;
 use crate::checker::{Checked, Checker};
 use crate::document;
 use crate::frames;
+use crate::index;
 use crate::kinds;
 use crate::meshes::{disguised, split_times, Mesh, Shape, SHAPES};
 use crate::program;
+use crate::random::Random;
 use crate::room::Room;
 
 pub struct Set {
@@ -29,6 +31,7 @@ pub struct Sizes {
     pub small: usize,
     pub large: usize,
     pub frames: usize,
+    pub index: usize,
     pub programs: usize,
 }
 
@@ -36,6 +39,7 @@ pub fn all(sizes: &Sizes) -> Vec<Set> {
     vec![
         Set { name: "document 01", cases: document::MESHES, kind: |number| document::named(number).name, check: check_document },
         Set { name: "frames", cases: sizes.frames, kind: frames_kind, check: check_frames },
+        Set { name: "index", cases: sizes.index, kind: index_kind, check: check_index },
         Set { name: "shapes", cases: sizes.small / 30, kind: |number| shape(number).name, check: check_shape },
         Set { name: "small", cases: sizes.small, kind: mesh_kind, check: check_small },
         Set { name: "boundaries", cases: boundaries::CASES, kind: |_| "of every number", check: boundaries::check },
@@ -50,6 +54,10 @@ fn mesh_kind(number: usize) -> &'static str {
 
 fn frames_kind(number: usize) -> &'static str {
     frames::KINDS[number % frames::KINDS.len()].name
+}
+
+fn index_kind(number: usize) -> &'static str {
+    index::KINDS[number % index::KINDS.len()].name
 }
 
 // ---- meshes
@@ -106,7 +114,10 @@ fn check_mesh(checker: &mut Checker, mesh: &Mesh) -> Checked {
     let text = frames::text(mesh);
     let beyond = checker.random.below(3);
     checker.write_frames(mesh, text.len() + beyond)?;
-    checker.read_frames(&text, mesh.list.len() + beyond)
+    checker.read_frames(&text, mesh.list.len() + beyond)?;
+    let text = index::text(mesh);
+    checker.write_index(mesh, text.len() + beyond)?;
+    checker.read_index(mesh.vertices, &text, mesh.list.len() + beyond)
 }
 
 fn asked_up_to(checker: &mut Checker, most: u64) -> Vec<u64> {
@@ -114,20 +125,30 @@ fn asked_up_to(checker: &mut Checker, most: u64) -> Vec<u64> {
     (0..=most).chain(too_much).collect()
 }
 
-// ---- frames
+// ---- texts
+
+// Mostly a few; sometimes many, and about as many as are allowed.
+fn triangles_of_text(random: &mut Random) -> usize {
+    match random.below(500) {
+        0 => random.pick(&[16_383, 16_384, 16_385]),
+        1..20 => random.between(10, 300),
+        _ => random.below(6),
+    }
+}
+
+// Of a buffer that needs so many entries.
+fn lengths_around(random: &mut Random, entries: usize) -> [usize; 4] {
+    [entries, entries + random.between(1, 9), entries.saturating_sub(random.between(1, 4)), 0]
+}
 
 // A text with its damage in buffers of several lengths; and of a few short ones, cut at every place.
 fn check_frames(checker: &mut Checker, number: usize) -> Checked {
     let random = &mut checker.random;
-    let triangles = match random.below(500) {
-        0 => random.pick(&[16_383, 16_384, 16_385]),
-        1..20 => random.between(10, 300),
-        _ => random.below(6),
-    };
+    let triangles = triangles_of_text(random);
     let mesh = frames::any_corners(random, triangles);
     let text = (frames::KINDS[number % frames::KINDS.len()].make)(random, frames::text(&mesh));
     let entries = 3 * frames::triangles_said(&text);
-    for length in [entries, entries + random.between(1, 9), entries.saturating_sub(random.between(1, 4)), 0] {
+    for length in lengths_around(random, entries) {
         checker.read_frames(&text, length)?;
     }
     let bytes = 11 + 15 * triangles;
@@ -140,4 +161,33 @@ fn check_frames(checker: &mut Checker, number: usize) -> Checked {
         }
     }
     Ok(())
+}
+
+// The same of index texts.
+fn check_index(checker: &mut Checker, number: usize) -> Checked {
+    let random = &mut checker.random;
+    let triangles = triangles_of_text(random);
+    let mesh = index::any_mesh(random, triangles);
+    let spelling = index::any_spelling(random, &mesh);
+    let text = (index::KINDS[number % index::KINDS.len()].make)(random, spelling);
+    let entries = entries_of(&text).unwrap_or(mesh.list.len());
+    for length in lengths_around(random, entries) {
+        checker.read_index(mesh.vertices, &text, length)?;
+    }
+    let bytes = index::text(&mesh).len();
+    for length in [bytes, bytes + 3, bytes.saturating_sub(1), 21 * triangles, 0] {
+        checker.write_index(&mesh, length)?;
+    }
+    if triangles <= 3 && number.is_multiple_of(16) {
+        for end in 0..text.len() {
+            checker.read_index(mesh.vertices, &text[..end], entries)?;
+        }
+    }
+    Ok(())
+}
+
+// How many corners an index text has, if it is right.
+fn entries_of(text: &[u8]) -> Option<usize> {
+    let (answer, list) = reference::read_index(0, text, usize::MAX);
+    (answer.refusal == 0).then_some(list.len())
 }

@@ -3,6 +3,7 @@
 use std::fmt::Write;
 
 use crate::document::{torus, Named, STARRED};
+use crate::index;
 use crate::kinds::KINDS;
 use crate::meshes::{self, Mesh};
 use crate::random::Random;
@@ -11,6 +12,10 @@ const BY_HAND: &str = include_str!("../../reference/tests/by_hand.txt");
 
 const SEED: u64 = 1;
 const GENERATED: usize = 330;
+const GENERATED_INDEX_TEXTS: usize = 260;
+
+// Greater numbers are wrong in cases.
+const GREATEST: u64 = 18_446_744_073_709_551_609;
 
 // What is asked too much of undo one and of undo several, among others.
 const TOO_MUCH: [u64; 6] = [8, 9, 255, 256, 32_768, 65_535];
@@ -64,6 +69,14 @@ impl Text {
         self.asked("6", asked);
     }
 
+    fn read_index(&mut self, vertices: u64, room: usize, index_text: &str) {
+        self.line(&format!("10 {vertices} {room} {}\n{index_text}", index_text.len()));
+    }
+
+    fn write_index(&mut self, room: usize) {
+        self.line(&format!("11 {room}"));
+    }
+
     fn asked(&mut self, command: &str, asked: impl IntoIterator<Item = u64>) {
         let words: Vec<String> = asked.into_iter().map(|asked| format!("{command} {asked}")).collect();
         self.line(&words.join(" "));
@@ -79,6 +92,9 @@ pub fn text() -> String {
     starred(&mut text);
     refusals(&mut text);
     generated(&mut text);
+    index_by_bytes(&mut text);
+    index_by_numbers(&mut text);
+    index_generated(&mut text);
     text.0
 }
 
@@ -165,6 +181,57 @@ fn generated(text: &mut Text) {
                 text.split(1);
                 text.take_several([1, 7]);
             }
+        }
+    }
+}
+
+// Every sign in three places: between two numbers, where a -1 may stand, and in a comment before what is no number.
+fn index_by_bytes(text: &mut Text) {
+    text.comment("---- index texts: every byte below 128");
+    for sign in '\0'..='\x7f' {
+        text.read_index(9, 3, &format!("0{sign}1 2"));
+        text.read_index(9, 3, &format!("0 1 2 -{sign}"));
+        text.read_index(9, 3, &format!("0 1 2#{sign}x"));
+    }
+}
+
+// Texts with and without a fault, with V at its boundary, and room for one face and for two.
+fn index_by_numbers(text: &mut Text) {
+    text.comment("---- index texts: refusals 14, 4 and 5, and 2, 4 and 5");
+    for vertices in [0, 32_767, 32_768, 65_536, 4_294_967_297, GREATEST] {
+        for index_text in ["", "#", "0 1 2", "0 1 2 -1,3 4 5", "0 1 ", "0 1 2 3", "0 1 2 -1 3 4 5 -1 x"] {
+            for room in [0, 2, 3, 5, 6] {
+                text.read_index(vertices, room, index_text);
+            }
+        }
+        for length in [0, 1, 2, 3, 4, 6] {
+            text.mesh(&Mesh { vertices, list: [0, 10, 65_535, 9, 100, 99][..length].to_vec() });
+            for room in [0, 12, 13, 25, 26, 27] {
+                text.write_index(room);
+            }
+        }
+    }
+}
+
+// Texts of every kind but those that are no UTF-8; then the present mesh, which may be what was read, is written. The last is long.
+fn index_generated(text: &mut Text) {
+    text.comment("---- index texts, generated");
+    for number in 0..=GENERATED_INDEX_TEXTS {
+        let mut random = Random::of_case(SEED, 1, number);
+        let kind = &index::KINDS[number % index::KINDS.len()];
+        let triangles = if number < GENERATED_INDEX_TEXTS { random.below(6) } else { 1_000 };
+        let mut mesh = index::any_mesh(&mut random, triangles);
+        mesh.vertices = mesh.vertices.min(GREATEST);
+        let spelling = index::any_spelling(&mut random, &mesh);
+        let Ok(index_text) = String::from_utf8((kind.make)(&mut random, spelling)) else { continue };
+        text.comment(kind.name);
+        text.read_index(mesh.vertices, (mesh.list.len() + 4).saturating_sub(random.below(6)), &index_text);
+        if random.one_in(2) {
+            text.mesh(&mesh);
+        }
+        let needed = index::text(&mesh).len();
+        for room in [needed, needed.saturating_sub(1), needed + random.below(4)] {
+            text.write_index(room);
         }
     }
 }

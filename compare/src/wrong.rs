@@ -2,7 +2,7 @@
 // fault it must pass.
 use std::collections::{BTreeMap, BTreeSet, HashMap, HashSet};
 
-use flatcarol::raw::{Answer, OneAnswer, OneOutputs, SeveralAnswer, Work, ONE_WORK, SEVERAL_WORK, SPLIT_WORK};
+use flatcarol::raw::{Answer, OneAnswer, OneOutputs, SeveralAnswer, TextAnswer, Work, ONE_WORK, SEVERAL_WORK, SPLIT_WORK};
 
 use crate::calls::{Calls, Library};
 use crate::meshes::{splitting, Mesh};
@@ -46,6 +46,13 @@ faults! {
     // In frames.
     LowerCaseRead,
     LastLineWithoutEnd,
+    // In index texts.
+    NumbersWrap,
+    CommentsEndAtLineFeedOnly,
+    MissingBeforeTrailingBlanks,
+    SizeBeforeText,
+    RoomForTheLongest,
+    BlankAfterTheLast,
 }
 
 pub struct Wrong(pub Fault);
@@ -352,6 +359,50 @@ impl Calls for Wrong {
     fn write_frames(&self, vertices: u64, list: &[u16], out: &mut [u8]) -> Answer {
         Library.write_frames(vertices, list, out)
     }
+
+    fn read_index(&self, vertices: u64, text: &[u8], out: &mut [u16]) -> Answer {
+        match self.0 {
+            Fault::NumbersWrap => Library.read_index(vertices, &wrapped(text), out),
+            Fault::CommentsEndAtLineFeedOnly => Library.read_index(vertices, &without_returns_in_comments(text), out),
+            Fault::MissingBeforeTrailingBlanks => Library.read_index(vertices, text.trim_ascii_end(), out),
+            Fault::SizeBeforeText if vertices > 32_767 => Answer { refusal: 4, ..Answer::default() },
+            _ => Library.read_index(vertices, text, out),
+        }
+    }
+
+    fn write_index(&self, vertices: u64, list: &[u16], out: &mut [u8]) -> TextAnswer {
+        let longest = 7 * list.len();
+        if self.has(Fault::RoomForTheLongest) && out.len() < longest {
+            return Library.write_index(vertices, list, &mut []);
+        }
+        let answer = Library.write_index(vertices, list, out);
+        if self.has(Fault::BlankAfterTheLast) && answer.bytes > 0 {
+            out[answer.bytes as usize..].iter_mut().take(1).for_each(|byte| *byte = b' ');
+        }
+        answer
+    }
+}
+
+// Each number, if 64 bits have it, as 16 bits have it, spelt in as many digits as before.
+fn wrapped(text: &[u8]) -> Vec<u8> {
+    let mut wrapped = text.to_vec();
+    for run in wrapped.split_mut(|byte| !byte.is_ascii_digit()) {
+        let value = std::str::from_utf8(run).ok().and_then(|digits| digits.parse::<u64>().ok());
+        if let Some(value) = value {
+            let width = run.len();
+            run.copy_from_slice(format!("{:0>width$}", value as u16).as_bytes());
+        }
+    }
+    wrapped
+}
+
+fn without_returns_in_comments(text: &[u8]) -> Vec<u8> {
+    let mut lines = text.to_vec();
+    for line in lines.split_mut(|&byte| byte == b'\n') {
+        let comment = line.iter().position(|&byte| byte == b'#').unwrap_or(line.len());
+        line[comment..].iter_mut().filter(|byte| **byte == b'\r').for_each(|byte| *byte = b' ');
+    }
+    lines
 }
 
 fn triangles_of(list: &[u16]) -> Vec<[u16; 3]> {

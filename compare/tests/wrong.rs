@@ -9,17 +9,24 @@ fn lines(bytes: &[u8]) -> Vec<String> {
     String::from_utf8_lossy(bytes).lines().map(str::to_string).collect()
 }
 
+// The small implementation with a fault, on so many small and large meshes, on a few texts, and without the program.
+fn compare_wrong(fault: &str, small: &str, large: &str) -> Output {
+    let meshes = ["--wrong", fault, "--small", small, "--large", large];
+    let others = ["--frames", "1000", "--index", "1000", "--programs", "0"];
+    compare(&[meshes, others].concat())
+}
+
 // With fewer cases, but every kind that is expected must occur.
 #[test]
 fn without_a_fault_it_passes() {
-    let run = compare(&["--wrong", "None", "--small", "10000", "--large", "30", "--frames", "1000", "--programs", "0"]);
+    let run = compare_wrong("None", "10000", "30");
     assert!(run.status.success(), "{}: {}", run.status, lines(&run.stdout).join("\n"));
 }
 
 #[test]
 fn each_fault_is_caught() {
     for fault in lines(&compare(&["--faults"]).stdout).iter().filter(|fault| *fault != "None") {
-        let run = compare(&["--wrong", fault, "--small", "3000", "--large", "0", "--frames", "1000", "--programs", "0"]);
+        let run = compare_wrong(fault, "3000", "0");
         println!("{fault}: {}", caught_by(&run));
         match fault.as_str() {
             "ReadsPastTheList" => assert_eq!(run.status.code(), None, "{fault} is ended by a signal"),

@@ -1,5 +1,5 @@
 /*
- * A figure leaves for an app as a fine mesh and comes back: the five calls of Flatcarol, one after the other.
+ * A figure leaves for an app as a fine mesh and comes back: the seven calls of Flatcarol, one after the other.
  *
  *     ./build-for-apps
  *     cc examples/c/figure.c -Itarget/app/include -Ltarget/app/lib/$(uname -m) -lflatcarol -o target/figure
@@ -179,6 +179,42 @@ static void frames_read_and_written(void)
     print_refusal(wrong.refusal, wrong.place);
 }
 
+/* ---- index texts
+
+   A square as an exporter writes it, two triangles with commas and a comment: read, split and written. The text does
+   not tell the number of vertices, 4. */
+
+static flatcarol_answer read_square(const char *text, uint16_t *out, size_t out_len)
+{
+    return flatcarol_read_index(4, (const uint8_t *)text, strlen(text), out, out_len);
+}
+
+static void index_text_read_and_written(void)
+{
+    uint16_t square[6];
+    printf("an index text, read\n");
+    const flatcarol_answer read = read_square("0, 1, 2, -1, # the lower half\n0, 2, 3", square, 6);
+    must_be_accepted(read.refusal, read.place);
+    printf("  %" PRIu64 " vertices, %" PRIu64 " triangles\n", read.vertices, read.triangles);
+    print_triangles(square, read.triangles);
+
+    uint16_t fine[24];
+    uint16_t work[5 * 10];
+    const flatcarol_answer split = flatcarol_split_in(4, square, 6, fine, 24, work, flatcarol_split_work(4, 2));
+    must_be_accepted(split.refusal, split.place);
+
+    /* How long the text is depends on its numbers: the answer tells. */
+    uint8_t out[21 * 8];
+    printf("split, and written\n");
+    const flatcarol_text_answer written = flatcarol_write_index(split.vertices, fine, 24, out, sizeof out);
+    must_be_accepted(written.refusal, written.place);
+    fwrite(out, 1, written.bytes, stdout);
+
+    printf("\nand with a corner less\n");
+    const flatcarol_answer wrong = read_square("0, 1, 2, -1, 0, 2, -1", square, 6);
+    print_refusal(wrong.refusal, wrong.place);
+}
+
 /* ---- refusals
 
    None of these writes to the output, and none needs to be checked for before the call. */
@@ -208,6 +244,7 @@ int main(void)
     one_split_and_back();
     seven_splits_and_back();
     frames_read_and_written();
+    index_text_read_and_written();
     refusals();
     return 0;
 }

@@ -107,6 +107,28 @@ fn refusals_2_to_10<const N: usize>(
     }
 }
 
+/// Refusals 4 and 5 of reading and writing, or else the answer of an accepted mesh: it needs so much room, and `lent` was lent.
+pub(crate) fn answer_by_size(vertices: u64, triangles: usize, needed: usize, lent: usize) -> Answer {
+    // "F above 16,384 (split: above 4,096) or V above 32,767"
+    if triangles > Limits::TRIANGLES || vertices > Limits::VERTICES {
+        return Answer::refused(4, 0);
+    }
+    // "a lent buffer shorter than needed"
+    if lent < needed {
+        return Answer::refused(5, 0);
+    }
+    Answer::accepted(vertices, triangles)
+}
+
+/// "Writing frames gives 2, 4, 5 and allows F = 0", and so does writing an index text.
+pub(crate) fn answer_to_write(vertices: u64, list: &[u16], needed: usize, lent: usize) -> Answer {
+    // "list length not a multiple of 3"
+    if !list.len().is_multiple_of(3) {
+        return Answer::refused(2, 0);
+    }
+    answer_by_size(vertices, list.len() / 3, needed, lent)
+}
+
 /// "**Split.**" "Splitting gives 2 to 10." Room: "split 12F".
 pub fn split(vertices: u64, list: &[u16], out: usize, work: &[usize]) -> (Answer, Vec<u16>) {
     match refusals_2_to_10(vertices, list, Limits::SPLIT_TRIANGLES, |_, f| [12 * f], [out], work) {

@@ -1,7 +1,6 @@
 //! Document 01, "Frames": reading and writing.
 
-use crate::calls::Answer;
-use crate::mesh::Limits;
+use crate::calls::{answer_by_size, answer_to_write, Answer};
 
 /// The value of four upper-case hexadecimal digits; None if they are not.
 fn four_digits(digits: &[u8]) -> Option<u16> {
@@ -48,12 +47,10 @@ pub fn read_frames(bytes: &[u8], out: usize) -> (Answer, Vec<u16>) {
     let Some([v, f]) = next_line(&mut rest).and_then(|line| frame::<2>(line, b"4D")) else {
         return (Answer::refused(12, 0), Vec::new());
     };
-    let (vertices, triangles) = (u64::from(v), usize::from(f));
-    if triangles > Limits::TRIANGLES || vertices > Limits::VERTICES {
-        return (Answer::refused(4, 0), Vec::new());
-    }
-    if out < 3 * triangles {
-        return (Answer::refused(5, 0), Vec::new());
+    let triangles = usize::from(f);
+    let answer = answer_by_size(v.into(), triangles, 3 * triangles, out);
+    if answer.refusal != 0 {
+        return (answer, Vec::new());
     }
     let mut list = Vec::new();
     for k in 0..triangles {
@@ -65,7 +62,7 @@ pub fn read_frames(bytes: &[u8], out: usize) -> (Answer, Vec<u16>) {
     if !rest.is_empty() {
         return (Answer::refused(12, triangles as u64 + 1), Vec::new());
     }
-    (Answer::accepted(vertices, triangles), list)
+    (answer, list)
 }
 
 /// The frames of a mesh. "First line: 4D, V in four digits, F in four digits. Then exactly F lines: 46 and three corners of four
@@ -80,15 +77,6 @@ pub(crate) fn frames(vertices: u64, list: &[u16]) -> String {
 
 /// "Writing frames gives 2, 4, 5 and allows F = 0." Room: "writing 11 + 15F bytes".
 pub fn write_frames(vertices: u64, list: &[u16], out: usize) -> (Answer, Vec<u8>) {
-    if !list.len().is_multiple_of(3) {
-        return (Answer::refused(2, 0), Vec::new());
-    }
-    let triangles = list.len() / 3;
-    if triangles > Limits::TRIANGLES || vertices > Limits::VERTICES {
-        return (Answer::refused(4, 0), Vec::new());
-    }
-    if out < 11 + 15 * triangles {
-        return (Answer::refused(5, 0), Vec::new());
-    }
-    (Answer::accepted(vertices, triangles), frames(vertices, list).into_bytes())
+    let answer = answer_to_write(vertices, list, 11 + 15 * (list.len() / 3), out);
+    (answer, if answer.refusal == 0 { frames(vertices, list).into_bytes() } else { Vec::new() })
 }

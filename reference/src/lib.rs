@@ -1,9 +1,10 @@
-//! An independent implementation of Flatcarol: a plain rendering of document 01, to be checked against it sentence by sentence.
-//! It shares no code with the proved library, and is compared with it.
+//! An independent implementation of Flatcarol: a plain rendering of document 01, and of request 101 of document 02, to be checked
+//! against them sentence by sentence. It shares no code with the proved library, and is compared with it.
 
 pub mod calls;
 pub mod exhaustive;
 pub mod frames;
+pub mod index;
 pub mod mesh;
 pub mod program;
 pub mod reading;
@@ -12,4 +13,5 @@ pub mod spreading;
 
 pub use calls::{proper, reading_in, split, undo_one, undo_several, Answer, One, OneRoom, Reading, Search, Several};
 pub use frames::{read_frames, write_frames};
+pub use index::{read_index, write_index};
 pub use program::program;

@@ -13,9 +13,9 @@ fn run(input: &str) -> String {
 
 const BY_HAND: &str = include_str!("by_hand.txt");
 
-/// The answer is as expected. Of a line that ends in two dots, only what stands before them is expected.
+/// The answer is as expected. Of a line that ends in a blank and two dots, only what stands before them is expected.
 fn is_as_expected(answer: &str, expected: &str) -> bool {
-    expected.strip_suffix("..").map_or(answer == expected, |beginning| answer.starts_with(beginning))
+    expected.strip_suffix(" ..").map_or(answer == expected, |beginning| answer.starts_with(beginning))
 }
 
 #[test]
@@ -51,6 +51,16 @@ fn answers() {
     assert_eq!(run("000003 # no mesh\n4 18446744073709551609"), "split 3 0 0 0\none 18446744073709551609 1 0 0 0 0\n");
     // the bytes of frames may be anything
     assert_eq!(run("8 0 2 #\n8 0 11\n4D00000000\n9"), "read 12 0 0 0\nread 0 0 0 0\n0:\nwrite 0 0 0 0\n4D00000000\n\n");
+    // and those of an index text; written, a byte that is as it was lent is a dot
+    assert_eq!(
+        run("10 9 6 8 0#\n1 2-1\n10 3 3 6\n00,1 2 11 11 11 8 11 7"),
+        "read-index 14 5 0 0\nread-index 0 0 3 1\n3: 0 1 2\n\
+         write-index 0 0 3 1 8\n0 1 2 -1...\nwrite-index 0 0 3 1 8\n0 1 2 -1\nwrite-index 5 0 0 0 0\n.......\n"
+    );
+    // at most 344,072 bytes are lent
+    for room in ["344072", "344073", "18446744073709551609"] {
+        assert_eq!(run(&format!("11 {room}")), format!("write-index 0 0 0 0 0\n{}\n", ".".repeat(344_072)));
+    }
     // 96 entries are written out, 97 and more are not
     let split_twice = run("1 3 3 0 1 2 3 3 3");
     assert!(split_twice.lines().nth(3).is_some_and(|line| line.starts_with("48: ") && line.split(' ').count() == 49));
@@ -60,13 +70,19 @@ fn answers() {
 #[test]
 fn wrong_files() {
     for text in [
-        "10",
+        "12",
         "0",
         "4",
         "7 0 0",
         "7 9 0 0",
         "8 0 11 4D00000000",
         "8 0 0",
+        "10",
+        "10 9 0",
+        "10 9 0 0",
+        "10 9 3 6 0 1 2",
+        "11",
+        "11 x",
         "1 3",
         "1 3 3 0 1",
         "2 0 1",
@@ -81,7 +97,7 @@ fn wrong_files() {
     ] {
         assert!(run(text).ends_with("wrong\n"), "{text:?}");
     }
-    assert_eq!(run("3 10 3"), "split 3 0 0 0\nwrong\n");
+    assert_eq!(run("3 12 3"), "split 3 0 0 0\nwrong\n");
     // 49,155 entries are allowed, three more are not
     let mut text = String::from("1 3 49155");
     text += &" 0".repeat(49_155);

@@ -33,6 +33,17 @@ impl Counts {
         11 + 15 * self.triangles
     }
 
+    /// How many bytes the index text of the mesh has at most: 21 for each triangle.
+    ///
+    /// ```
+    /// let counts = flatcarol::Counts { vertices: 6, triangles: 4 };
+    /// assert_eq!(counts.index_bytes_at_most(), 84);
+    /// ```
+    pub fn index_bytes_at_most(self) -> usize {
+        // Three corners of five digits and -1, with a blank after each of the four.
+        21 * self.triangles
+    }
+
     // The counts that buffers are made for. A mesh above the limits is refused whatever is lent, and so gets as little as a mesh with
     // nothing in it: no number that a caller gives leads to a large allocation.
     pub(crate) fn to_lend_for(vertices: usize, list: &[u16], most_triangles: usize) -> Counts {
@@ -84,6 +95,15 @@ pub struct UndoneCounts {
     pub levels: usize,
     /// The role taken at each level, the first one undone first. Behind them stand zeros.
     pub roles: [u8; Limits::LEVELS],
+}
+
+/// What [`write_index`] wrote: the counts of the mesh, and the length of its text.
+#[derive(Clone, Copy, Debug, PartialEq, Eq)]
+pub struct TextCounts {
+    /// The mesh that was written.
+    pub mesh: Counts,
+    /// How many bytes its text has: the first ones of `out`.
+    pub bytes: usize,
 }
 
 /// Splits a mesh: each triangle becomes four. `out` needs 12 entries for each triangle.
@@ -213,13 +233,75 @@ pub fn write_frames(vertices: usize, list: &[u16], out: &mut [u8]) -> Result<Cou
     counts(answer.refusal, answer.place, answer.vertices, answer.triangles)
 }
 
+/// Reads a mesh from its index text, the `coordIndex` of an IndexedFaceSet in VRML97. `out` needs 3 entries for each face:
+/// [`index_entries_at_most`] are enough.
+///
+/// The text has decimal numbers with blanks, tabs, CR, LF or commas between them; `-1` closes a face, and may be missing after the
+/// last; `#` starts a comment, which ends with its line. Corners are not judged against the number of vertices, which the text does
+/// not tell: the mesh that was read need not be proper.
+///
+/// ```
+/// use flatcarol::{read_index, Counts, Refusal};
+///
+/// let mut list = [0; 6];
+/// let counts = read_index(4, b"0, 1, 2, -1, # the first\n0, 2, 3", &mut list)?;
+/// assert_eq!(counts, Counts { vertices: 4, triangles: 2 });
+/// assert_eq!(list, [0, 1, 2, 0, 2, 3]);
+/// assert_eq!(read_index(4, b"0 1 2 3 -1", &mut list), Err(Refusal::TextNotAsRequired { byte: 6 }));
+/// # Ok::<(), Refusal>(())
+/// ```
+///
+/// # Errors
+///
+/// Refusal 14, then 4 and 5. A text without faces is allowed.
+pub fn read_index(vertices: usize, text: &[u8], out: &mut [u16]) -> Result<Counts, Refusal> {
+    let answer = raw::read_index(vertices as u64, text, out);
+    counts(answer.refusal, answer.place, answer.vertices, answer.triangles)
+}
+
+/// How many entries [`read_index`] needs at most for this text: about one for every three bytes, and never more than the largest mesh
+/// has.
+///
+/// ```
+/// use flatcarol::index_entries_at_most;
+///
+/// assert_eq!(index_entries_at_most(b"0 1 2 -1 0 2 3"), 6);
+/// assert_eq!(index_entries_at_most(b"0 1"), 0); // a corner is missing, so it is refused whatever is lent
+/// ```
+pub fn index_entries_at_most(text: &[u8]) -> usize {
+    // A face takes at least the nine bytes of `0 1 2 -1` and a separator, but the last one only the five of `0 1 2`.
+    let faces = (text.len() + 4) / 9;
+    3 * faces.min(Limits::TRIANGLES)
+}
+
+/// Writes a mesh as an index text: `0 1 2 -1 0 2 3 -1`. `out` needs as many bytes as are written: [`Counts::index_bytes_at_most`] are
+/// enough.
+///
+/// ```
+/// use flatcarol::write_index;
+///
+/// let mut bytes = [0; 42];
+/// let text = write_index(4, &[0, 1, 2, 0, 2, 3], &mut bytes)?;
+/// assert_eq!(bytes[..text.bytes], *b"0 1 2 -1 0 2 3 -1");
+/// # Ok::<(), flatcarol::Refusal>(())
+/// ```
+///
+/// # Errors
+///
+/// Refusals 2, 4 and 5. A mesh without triangles is allowed, and has an empty text.
+pub fn write_index(vertices: usize, list: &[u16], out: &mut [u8]) -> Result<TextCounts, Refusal> {
+    let answer = raw::write_index(vertices as u64, list, out);
+    let mesh = counts(answer.refusal, answer.place, answer.vertices, answer.triangles)?;
+    Ok(TextCounts { mesh, bytes: answer.bytes as usize })
+}
+
 // The part that all answers share: the refusal, or the counts.
 fn counts(refusal: u64, place: u64, vertices: u64, triangles: u64) -> Result<Counts, Refusal> {
     if refusal == 0 {
         return Ok(Counts { vertices: vertices as usize, triangles: triangles as usize });
     }
     // The library is proved to give no number but these, so this panics only if something else is linked in its place.
-    Err(Refusal::from_number(refusal, place as usize).expect("the linked library gives document 01's numbers"))
+    Err(Refusal::from_number(refusal, place as usize).expect("the linked library gives the numbers of the table"))
 }
 
 #[cfg(test)]

@@ -12,7 +12,10 @@ pub mod raw;
 mod refusal;
 mod room;
 
-pub use calls::{read_frames, split, undo_one, undo_several, write_frames, Asked, Counts, ReadingCounts, UndoneCounts};
+pub use calls::{
+    index_entries_at_most, read_frames, read_index, split, undo_one, undo_several, write_frames, write_index, Asked, Counts,
+    ReadingCounts, TextCounts, UndoneCounts,
+};
 pub use limits::Limits;
 pub use mesh::{Mesh, Reading, Undone};
 #[doc(inline)]

@@ -1,4 +1,4 @@
-/// The sizes that document 01 names. A mesh above them is refused with [`Refusal::TooLarge`](crate::Refusal::TooLarge).
+/// The sizes that documents 01 and 02 name. A mesh above them is refused with [`Refusal::TooLarge`](crate::Refusal::TooLarge).
 #[derive(Clone, Copy, Debug)]
 pub struct Limits;
 
@@ -13,4 +13,7 @@ impl Limits {
     pub const LEVELS: usize = 7;
     /// The most bytes that the program `unsplit` reads.
     pub const PROGRAM_BYTES: usize = 16_384;
+    /// The largest corner that an index text may name. One above it is refused with
+    /// [`Refusal::TextNotAsRequired`](crate::Refusal::TextNotAsRequired).
+    pub const CORNER: usize = 65_535;
 }

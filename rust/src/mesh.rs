@@ -1,6 +1,9 @@
 //! The calls on meshes of one's own: they give vectors, each exactly as long as needed.
 
-use crate::{read_frames, split, undo_one, undo_several, write_frames, Asked, Counts, Limits, OneOutputs, Refusal, Room};
+use crate::{
+    index_entries_at_most, read_frames, read_index, split, undo_one, undo_several, write_frames, write_index, Asked, Counts,
+    Limits, OneOutputs, Refusal, Room,
+};
 
 /// A triangle mesh: so many vertices, and three entries of the list for each triangle. Any such value may be made; the calls refuse
 /// what is no proper mesh.
@@ -171,6 +174,50 @@ impl Mesh {
         let mut bytes = vec![0; lent.frame_bytes()];
         write_frames(self.vertices, &self.list, &mut bytes)?;
         Ok(bytes)
+    }
+
+    /// Reads a mesh of so many vertices from its index text, which may be a string or bytes. See [`read_index`].
+    ///
+    /// ```
+    /// use flatcarol::{Mesh, Refusal};
+    ///
+    /// let mesh = Mesh::from_index(4, "0, 1, 2, -1,\n0, 2, 3")?;
+    /// assert_eq!(mesh, Mesh::new(4, [0, 1, 2, 0, 2, 3]));
+    /// // Two corners, and the text is at its end.
+    /// assert_eq!(Mesh::from_index(4, b"0 1"), Err(Refusal::TextNotAsRequired { byte: 3 }));
+    /// # Ok::<(), Refusal>(())
+    /// ```
+    ///
+    /// # Errors
+    ///
+    /// Refusals 14 and 4.
+    pub fn from_index(vertices: usize, text: impl AsRef<[u8]>) -> Result<Mesh, Refusal> {
+        let text = text.as_ref();
+        let mut list = vec![0; index_entries_at_most(text)];
+        let counts = read_index(vertices, text, &mut list)?;
+        Ok(Mesh::cut(counts, list))
+    }
+
+    /// Writes it as an index text, which is ASCII. See [`write_index`].
+    ///
+    /// ```
+    /// use flatcarol::Mesh;
+    ///
+    /// let text = Mesh::new(4, [0, 1, 2, 0, 2, 3]).to_index()?;
+    /// assert_eq!(text, b"0 1 2 -1 0 2 3 -1");
+    /// # Ok::<(), flatcarol::Refusal>(())
+    /// ```
+    ///
+    /// # Errors
+    ///
+    /// Refusals 2 and 4. A mesh without triangles is allowed, and has an empty text.
+    pub fn to_index(&self) -> Result<Vec<u8>, Refusal> {
+        let lent = Counts::to_lend_for(self.vertices, &self.list, Limits::TRIANGLES);
+        let mut text = vec![0; lent.index_bytes_at_most()];
+        let written = write_index(self.vertices, &self.list, &mut text)?;
+        text.truncate(written.bytes);
+        text.shrink_to_fit();
+        Ok(text)
     }
 
     // The mesh of these counts, whose list is the first entries of `list`.

@@ -1,4 +1,4 @@
-//! The library's five calls as C functions, and each behind a safe function on slices. How long the buffers must be is said in
+//! The library's calls as C functions, and each behind a safe function on slices. How long the buffers must be is said in
 //! docs/ROOM.md; a shorter one is refused.
 
 /// What a call answers: the refusal's number and place, or 0, 0 and the resulting counts.
@@ -32,6 +32,17 @@ pub struct SeveralAnswer {
     pub triangles: u64,
     pub levels: u64,
     pub roles: [u8; 7],
+}
+
+/// What write index answers: the same as split, and how many bytes were written.
+#[repr(C)]
+#[derive(Clone, Copy, Debug, Default, PartialEq, Eq)]
+pub struct TextAnswer {
+    pub refusal: u64,
+    pub place: u64,
+    pub vertices: u64,
+    pub triangles: u64,
+    pub bytes: u64,
 }
 
 /// The output buffers of undo one.
@@ -77,6 +88,8 @@ declare! {
         u16: out, work1, work2, work3, work4, work5, work6, work7, work8, work9, work10) -> SeveralAnswer;
     flatcarol_read_frames(bytes: *const u8, bytes_len: usize; u16: out) -> Answer;
     flatcarol_write_frames(vertices: u64, list: *const u16, list_len: usize; u8: out) -> Answer;
+    flatcarol_read_index(vertices: u64, text: *const u8, text_len: usize; u16: out) -> Answer;
+    flatcarol_write_index(vertices: u64, list: *const u16, list_len: usize; u8: out) -> TextAnswer;
 }
 
 /// Splits a mesh of `vertices` vertices, whose triangles are `list`.
@@ -118,4 +131,31 @@ pub fn read_frames(bytes: &[u8], out: &mut [u16]) -> Answer {
 pub fn write_frames(vertices: u64, list: &[u16], out: &mut [u8]) -> Answer {
     // SAFETY: as in `split`.
     unsafe { lend!(flatcarol_write_frames(vertices, list.as_ptr(), list.len(); out)) }
+}
+
+/// Reads a mesh of `vertices` vertices from its index text.
+pub fn read_index(vertices: u64, text: &[u8], out: &mut [u16]) -> Answer {
+    // SAFETY: as in `split`.
+    unsafe { lend!(flatcarol_read_index(vertices, text.as_ptr(), text.len(); out)) }
+}
+
+/// Writes a mesh as an index text.
+pub fn write_index(vertices: u64, list: &[u16], out: &mut [u8]) -> TextAnswer {
+    // SAFETY: as in `split`.
+    unsafe { lend!(flatcarol_write_index(vertices, list.as_ptr(), list.len(); out)) }
+}
+
+#[cfg(test)]
+mod tests {
+    use super::{Answer, OneAnswer, SeveralAnswer, TextAnswer};
+    use std::mem::{offset_of, size_of};
+
+    // The size and where the last field is, as include/flatcarol.h has them: the fields before it are all of 64 bits.
+    #[test]
+    fn answers_have_the_layout_of_the_header() {
+        assert_eq!((size_of::<Answer>(), offset_of!(Answer, triangles)), (32, 24));
+        assert_eq!((size_of::<OneAnswer>(), offset_of!(OneAnswer, role)), (40, 32));
+        assert_eq!((size_of::<SeveralAnswer>(), offset_of!(SeveralAnswer, roles)), (48, 40));
+        assert_eq!((size_of::<TextAnswer>(), offset_of!(TextAnswer, bytes)), (40, 32));
+    }
 }

@@ -2,10 +2,11 @@ use crate::Limits;
 use std::error::Error;
 use std::fmt;
 
-/// Why a call was refused: document 01's table, with the place where the table names one.
+/// Why a call was refused: document 01's table, to which document 02 adds 14, with the place where the table names one.
 ///
 /// Refusals are checked in the order of their numbers, each over the whole mesh, and the place is the least at which the refusal is
-/// due. A refused call has written to no buffer of the caller's.
+/// due. What is read is judged first, as far as it says how large the mesh is: 12 for the first line of frames, and 14. A refused call
+/// has written to no buffer of the caller's.
 ///
 /// ```
 /// use flatcarol::{Mesh, Refusal, Room};
@@ -61,10 +62,16 @@ pub enum Refusal {
     },
     /// 13: the input is too long. Only the program `unsplit` gives it, and no function of this crate.
     InputTooLong,
+    /// 14: an index text is not of its form, has a corner above 65,535 or a face that has not three corners.
+    TextNotAsRequired {
+        /// The first byte of the first number, or what stands in the place of one, that is at fault: a fourth corner and an early -1
+        /// too. If none is, and the last face lacks a corner, the length of the text.
+        byte: usize,
+    },
 }
 
 impl Refusal {
-    /// The refusal of this number at this place. `None` for 0, which says accepted, and for a number that document 01 does not have.
+    /// The refusal of this number at this place. `None` for 0, which says accepted, and for a number that the table does not have.
     /// The place of a refusal that has none is not looked at.
     ///
     /// ```
@@ -72,7 +79,7 @@ impl Refusal {
     ///
     /// assert_eq!(Refusal::from_number(10, 1), Some(Refusal::NotConnected { triangle: 1 }));
     /// assert_eq!(Refusal::from_number(0, 0), None);
-    /// assert_eq!(Refusal::from_number(14, 0), None);
+    /// assert_eq!(Refusal::from_number(15, 0), None);
     /// ```
     pub fn from_number(number: u64, place: usize) -> Option<Refusal> {
         Some(match number {
@@ -89,11 +96,12 @@ impl Refusal {
             11 => Refusal::NoReading,
             12 => Refusal::FrameNotAsRequired { line: place },
             13 => Refusal::InputTooLong,
+            14 => Refusal::TextNotAsRequired { byte: place },
             _ => return None,
         })
     }
 
-    /// Its number in document 01's table.
+    /// Its number in the table.
     ///
     /// ```
     /// assert_eq!(flatcarol::Refusal::NoReading.number(), 11);
@@ -102,7 +110,7 @@ impl Refusal {
         self.row().0
     }
 
-    /// The triangle, vertex or line that it names, and 0 where it names none.
+    /// The triangle, vertex, line or byte that it names, and 0 where it names none.
     ///
     /// ```
     /// use flatcarol::Refusal;
@@ -130,6 +138,7 @@ impl Refusal {
             Refusal::NoReading => (11, 0),
             Refusal::FrameNotAsRequired { line } => (12, line),
             Refusal::InputTooLong => (13, 0),
+            Refusal::TextNotAsRequired { byte } => (14, byte),
         }
     }
 }
@@ -165,6 +174,11 @@ impl fmt::Display for Refusal {
                 write!(text, "line {line}, counted from 0, is not the frame that is required there")
             }
             Refusal::InputTooLong => write!(text, "the program reads at most {} bytes", Limits::PROGRAM_BYTES),
+            Refusal::TextNotAsRequired { byte } => write!(
+                text,
+                "the index text is at fault at byte {byte}, counted from 0: faces have three corners up to {} and end with -1",
+                Limits::CORNER
+            ),
         }
     }
 }

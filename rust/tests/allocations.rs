@@ -1,6 +1,6 @@
 //! Calls with a room that is large enough allocate nothing.
 
-use flatcarol::{read_frames, split, undo_one, undo_several, write_frames, Asked, OneOutputs, Room};
+use flatcarol::{read_frames, read_index, split, undo_one, undo_several, write_frames, write_index, Asked, OneOutputs, Room};
 use std::alloc::{GlobalAlloc, Layout, System};
 use std::cell::Cell;
 
@@ -35,7 +35,7 @@ fn allocations(work: impl FnOnce()) -> usize {
 
 // Each call once, accepted, and one refusal, on buffers that no heap holds.
 fn every_call(room: &mut Room) {
-    let (mut fine, mut coarse, mut frames) = ([0; 12], [0; 12], [0; 71]);
+    let (mut fine, mut coarse, mut frames, mut text) = ([0; 12], [0; 12], [0; 71], [0; 84]);
     split(3, &[0, 1, 2], &mut fine, room).unwrap();
 
     let (mut mesh, mut vertex_map, mut triangle_map) = ([0; 3], [0; 6], [0; 4]);
@@ -45,6 +45,8 @@ fn every_call(room: &mut Room) {
 
     write_frames(6, &fine, &mut frames).unwrap();
     read_frames(&frames, &mut coarse).unwrap();
+    let written = write_index(6, &fine, &mut text).unwrap();
+    read_index(6, &text[..written.bytes], &mut coarse).unwrap();
     split(usize::MAX, &fine, &mut coarse, room).unwrap_err();
 }
 

@@ -1,6 +1,6 @@
 /*
  * Tries what flatcarol.h adds to the archive: that the declarations fit the archive's functions, argument by argument
- * and field by field, the lengths of work, the cutting of one block, and calls in two threads. What the calls
+ * and field by field, the lengths of work and texts, the cutting of one block, and calls in two threads. What the calls
  * themselves do is proved, and is tried here only where it shows that nothing was mixed up on the way.
  *
  * Prints what went wrong, and nothing where nothing did. It is C99 and C++17.
@@ -177,6 +177,42 @@ static void try_frames(void)
     expect(a.refusal == 4, "too many vertices are not written", 0);
 }
 
+/* Document 02's request 101. */
+static void try_index(void)
+{
+    const uint16_t list[6] = {0, 1, 2, 10, 65535, 3};
+    const char *const text = "0 1 2 -1 10 65535 3 -1";
+    uint8_t bytes[23];
+    memset(bytes, '7', sizeof bytes);
+    lent out = lend(6);
+
+    flatcarol_text_answer w = flatcarol_write_index(9, list, 6, bytes, 21);
+    expect(w.refusal == 5 && w.place == 0 && w.vertices == 0 && w.triangles == 0, "21 bytes are too short", 0);
+    expect(w.bytes == 0 && bytes[0] == '7', "a refusal writes no byte", 1);
+    w = flatcarol_write_index(9, list, 6, bytes, 22);
+    expect(w.refusal == 0 && w.place == 0 && w.vertices == 9 && w.triangles == 2, "an index text is written", 0);
+    expect(w.bytes == 22 && memcmp(bytes, text, 22) == 0 && bytes[22] == '7', "the text is the request's", 0);
+    w = flatcarol_write_index(9, list, 0, bytes, 0);
+    expect(w.refusal == 0 && w.vertices == 9 && w.triangles == 0 && w.bytes == 0, "no face is written", 0);
+    w = flatcarol_write_index(9, list, 5, bytes, 23);
+    expect(w.refusal == 2 && w.bytes == 0, "5 entries are not written", 0);
+    w = flatcarol_write_index(65545, list, 6, bytes, 23);
+    expect(w.refusal == 4 && w.bytes == 0, "V is 9 modulo 2^16", 3);
+
+    flatcarol_answer r = flatcarol_read_index(9, bytes, 23, out.entries, out.len);
+    expect(r.refusal == 14 && r.place == 20 && r.vertices == 0 && r.triangles == 0, "-17 closes no face", 0);
+    r = flatcarol_read_index(9, bytes, 15, out.entries, out.len);
+    expect(r.refusal == 14 && r.place == 15, "two corners are missing", 0);
+    r = flatcarol_read_index(UINT64_MAX, bytes, 22, out.entries, out.len);
+    expect(r.refusal == 4 && r.place == 0, "V is 2^64 - 1", 3);
+    r = flatcarol_read_index(9, bytes, 22, out.entries, 5);
+    expect(r.refusal == 5 && r.place == 0, "5 entries are too short", 0);
+    expect(all(out.entries, 0, 64, 7), "a refusal writes no entry", 1);
+    r = flatcarol_read_index(9, bytes, 22, out.entries, out.len);
+    expect(r.refusal == 0 && r.place == 0 && r.vertices == 9 && r.triangles == 2, "an index text is read", 0);
+    expect_output(&out, list, 6, r.refusal, 1);
+}
+
 /* Six splits of the sample, undone: the sample's own role, 1, is the last of seven. */
 static void try_last_role(void)
 {
@@ -224,6 +260,24 @@ static void try_lengths(void)
         expect(flatcarol_work_each(0, absurd[i]) == 49152, "so many triangles", i);
         expect(flatcarol_undo_several_work(absurd[i], absurd[i]) == 819190, "so many of both", i);
     }
+}
+
+/* ---- lengths of index texts */
+
+static void try_index_lengths(void)
+{
+    /* The shortest text of so many faces, and one byte less. */
+    for (size_t faces = 1; faces <= FLATCAROL_MOST_TRIANGLES; faces++) {
+        expect(flatcarol_read_index_most(9 * faces - 4) == 3 * faces, "so many faces", faces);
+        expect(flatcarol_read_index_most(9 * faces - 5) == 3 * (faces - 1), "a face less", faces);
+    }
+    expect(flatcarol_read_index_most(0) == 0, "no text", 0);
+    expect(flatcarol_read_index_most(SIZE_MAX) == 49152, "the longest text", 0);
+
+    expect(flatcarol_write_index_most(0) == 0, "no triangle", 0);
+    expect(flatcarol_write_index_most(2) == 42, "two triangles", 0);
+    expect(flatcarol_write_index_most(16384) == 344064, "the most triangles", 0);
+    expect(flatcarol_write_index_most(UINT64_MAX) == 344064, "so many triangles", 0);
 }
 
 /* ---- one block of work, cut */
@@ -332,14 +386,14 @@ static void try_limits(void)
 
 static void try_texts(void)
 {
-    for (uint64_t number = 0; number < 14; number++) {
-        for (uint64_t other = number + 1; other < 15; other++) {
+    for (uint64_t number = 0; number < 15; number++) {
+        for (uint64_t other = number + 1; other < 16; other++) {
             expect(
                 strcmp(flatcarol_refusal_text(number), flatcarol_refusal_text(other)) != 0,
                 "each refusal has a text of its own", number);
         }
     }
-    expect(strcmp(flatcarol_refusal_text(14), flatcarol_refusal_text(UINT64_MAX)) == 0, "other numbers have none", 0);
+    expect(strcmp(flatcarol_refusal_text(15), flatcarol_refusal_text(UINT64_MAX)) == 0, "other numbers have none", 0);
 }
 
 /* ---- two threads, each with buffers of its own */
@@ -415,8 +469,10 @@ int main(void)
         try_undo_several(shorter);
     }
     try_frames();
+    try_index();
     try_last_role();
     try_lengths();
+    try_index_lengths();
     try_blocks();
     try_null();
     try_absurd();

@@ -1,11 +1,13 @@
--- The code's answers and buffers as document 01's.
+-- The code's answers and buffers as the documents'.
 use Prim.Native.Nat.{ℕ}
 use mathlib.Core.List.{List}
 use Rattle.theory.specs.Calls as promise
 use Rattle.theory.specs.Frames.{FramesAnswer}
+use Rattle.theory.specs.Index as index
 use Rattle.answers.specs.declared.answers.Answer.{Answer}
 use Rattle.answers.specs.declared.answers.OneAnswer.{OneAnswer}
 use Rattle.answers.specs.declared.answers.SeveralAnswer.{SeveralAnswer}
+use Rattle.answers.specs.declared.answers.TextAnswer.{TextAnswer}
 
 -- The answer of split.
 abbrev pub answerOf : Answer → promise.Answer
@@ -15,7 +17,7 @@ answerOf a = record { refusal = a .refusal; place = a .place; vertices = a .vert
 abbrev pub asFrames : promise.Answer → FramesAnswer
 asFrames a = record { refusal = a .refusal; place = a .place; vertices = a .vertices; triangles = a .triangles }
 
--- The answer of read frames and of write frames, which are the same struct.
+-- The answer of read frames, of write frames and of read index, which are the same struct.
 abbrev pub framesAnswerOf : Answer → FramesAnswer
 framesAnswerOf a = asFrames (answerOf a)
 
@@ -32,6 +34,13 @@ severalAnswerOf a = record {
   common = record { refusal = a .refusal; place = a .place; vertices = a .vertices; triangles = a .triangles };
   levels = a .levels;
   roles = a .roles;
+}
+
+-- The answer of write index.
+abbrev pub textAnswerOf : TextAnswer → index.TextAnswer
+textAnswerOf a = record {
+  common = record { refusal = a .refusal; place = a .place; vertices = a .vertices; triangles = a .triangles };
+  bytes = a .bytes;
 }
 
 -- The three output buffers of undo one.

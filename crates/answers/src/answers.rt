@@ -3,8 +3,9 @@ use super::levels::Levels;
 use limits::limits::Limits;
 ghost use mathlib.Core.Path.{_≡_};
 ghost use Rattle.theory.specs.Calls as promise;
+ghost use Rattle.theory.specs.Index.{textRefusal, textAccepted};
 ghost use Rattle.answers.specs.Levels.{answerToLevels};
-ghost use Rattle.answers.specs.Answers.{answerOf, oneAnswerOf, severalAnswerOf};
+ghost use Rattle.answers.specs.Answers.{answerOf, oneAnswerOf, severalAnswerOf, textAnswerOf};
 
 // What a call answers: the refusal's number and place, or 0, 0 and the resulting counts.
 #[repr(C)]
@@ -113,5 +114,41 @@ pub fn accepted_several(undone: Levels) -> SeveralAnswer
         triangles: undone.triangles as u64,
         levels: undone.levels,
         roles,
+    }
+}
+
+// What write index answers: the same as split, and how many bytes were written.
+#[repr(C)]
+pub struct TextAnswer {
+    pub refusal: u64,
+    pub place: u64,
+    pub vertices: u64,
+    pub triangles: u64,
+    pub bytes: u64,
+}
+
+// A refusal of write index.
+pub fn refused_text(refusal: u64, place: u64) -> TextAnswer
+    ensures { λ r. ⌜ textAnswerOf r ≡ textRefusal refusal place ⌝ }
+{
+    TextAnswer {
+        refusal,
+        place,
+        vertices: 0,
+        triangles: 0,
+        bytes: 0,
+    }
+}
+
+// An acceptance of write index.
+pub fn accepted_text(vertices: usize, triangles: usize, bytes: usize) -> TextAnswer
+    ensures { λ r. ⌜ textAnswerOf r ≡ textAccepted vertices triangles bytes ⌝ }
+{
+    TextAnswer {
+        refusal: 0,
+        place: 0,
+        vertices: vertices as u64,
+        triangles: triangles as u64,
+        bytes: bytes as u64,
     }
 }

@@ -1,7 +1,6 @@
 -- Laws of reading from a place in a list of bytes, part by part: digits, numbers, ends and lines, as theory's readers
 -- take them.
 use Prim.Native.Nat.{ℕ, zero, suc, _+_, _*_, _/_, _%_, _≤_, _<_}
-use native.Mathlib.Numerals.{add-one}
 use native.Mathlib.Omega.{arith}
 use mathlib.Core.Path.{_≡_, refl, sym, ap, _∙_}
 use mathlib.Core.Bool.{Bool, true, false, _&&_}
@@ -10,12 +9,11 @@ use mathlib.Core.List.{List, [], _∷_, _++_, append-nil, append-assoc}
 use borrow.Author.Tests.{le-leb, lt-leb, eq-eqb, ne-eqb, eqb-true}
 use lib.Dec.{leb, eqb}
 use lib.ListN.{length, drop, length-drop}
-use lib.Seq.{drop-cons}
 use Rattle.theory.specs.Mesh.{at}
 use Rattle.theory.specs.Frames.{digit, digitValue, Taken, takeDigits, takeNumbers, takeEnd, takeLine}
 use Rattle.theory.proofs.Frames.{digitValue-digit, digit-digitValue}
 use Rattle.frames_read.specs.Parts.{DigitsLeft, KindLeft, takeKind}
-use Rattle.lists.proofs.Lists.{by-lt}
+use Rattle.lists.proofs.Lists.{by-lt, drop-inside}
 
 -- ---- digits
 
@@ -30,12 +28,6 @@ outside low n high out =
 pub digitValue-wrong : (byte : ℕ) → (48 ≤ byte → 57 < byte) → (65 ≤ byte → 70 < byte) → digitValue byte ≡ none
 unfolding digitValue
 digitValue-wrong byte low high = cc (outside 48 byte 57 low, outside 65 byte 70 high)
-
--- ---- bytes at a place
-
--- where a byte stands, it and those from the next place on
-pub drop-inside : (bytes : List ℕ) (i : ℕ) → i < length bytes → drop i bytes ≡ at bytes i ∷ drop (i + 1) bytes
-drop-inside bytes i l = rw (add-one i, drop-cons bytes i 0 l)
 
 -- ---- numbers
 

@@ -8,7 +8,7 @@ use mathlib.Core.List.{List, [], _∷_, _++_}
 use lib.ListN.{length, drop, drop-of-length-le}
 use Rattle.theory.specs.Frames.{Taken, takeLine, corners, wrongLine, takeTriangles}
 use Rattle.frames_read.specs.Given.{whole, refused, given}
-use Rattle.frames_read.proofs.Takes.{drop-inside}
+use Rattle.lists.proofs.Lists.{drop-inside}
 
 -- ---- what a frame's answer tells
 

@@ -1,4 +1,4 @@
-// The sizes that document 01 names: nowhere else in the code stands one of these numbers.
+// The sizes that documents 01 and 02 name: nowhere else in the code stands one of these numbers.
 
 pub struct Limits {}
 
@@ -21,4 +21,6 @@ impl Limits {
     pub const PROGRAM_VERTICES: u64 = 1_026;
 
     pub const PROGRAM_BYTES: u64 = 16_384;
+    // The largest corner that an index text may name.
+    pub const CORNER: u64 = 65_535;
 }

@@ -1,10 +1,10 @@
-// Refusals 1 to 4, and 5 of writing frames, which are judged from numbers alone.
+// Refusals 1 to 4, and 5 of writing frames and of reading an index text, which are judged from numbers alone.
 use super::limits::Limits;
 ghost use Prim.Native.Nat.{_/_};
 ghost use mathlib.Core.List.{[], _∷_};
 ghost use Rattle.theory.specs.Limits.{mostTriangles, mostSplitTriangles, anyRole, mostLevels};
-ghost use Rattle.theory.specs.Refusals.{askedTooMuch, notThrees, tooLarge, sizeRules};
-ghost use Rattle.theory.specs.Frames.{writeRules};
+ghost use Rattle.theory.specs.Refusals.{askedTooMuch, notThrees, tooLarge, tooShort, sizeRules};
+ghost use Rattle.theory.specs.Frames.{readRooms, writeRules};
 ghost use Rattle.limits.specs.Judged.{Judged};
 
 // 1 of a role asked; 0 where it is not given.
@@ -60,8 +60,8 @@ fn judge_size(most: u64, vertices: u64, entries: usize) -> u64
     judge_large(most, vertices, triangles)
 }
 
-// 2 and 4 of a mesh to write as frames, which may have no triangle; 0 where none is given.
-fn judge_size_to_write(vertices: u64, entries: usize) -> u64
+// 2 and 4 of a mesh to write as text, which may have no triangle; 0 where none is given.
+pub fn judge_size_to_write(vertices: u64, entries: usize) -> u64
     ensures { λ r. ⌜ Judged (notThrees entries ∷ tooLarge mostTriangles vertices (entries / 3) ∷ []) r 0 ⌝ }
 {
     let number = judge_threes(entries);
@@ -80,6 +80,20 @@ pub fn judge_write_size(vertices: u64, entries: usize, out: usize) -> u64
         return number;
     }
     if out < 11 + 15 * (entries / 3) {
+        return 5;
+    }
+    0
+}
+
+// 4 and 5 of a mesh with these counts whose index text is read, where `out` entries are lent; 0 where none is given.
+pub fn judge_size_to_read(vertices: u64, triangles: usize, out: usize) -> u64
+    ensures { λ r. ⌜ Judged (tooLarge mostTriangles vertices triangles ∷ tooShort (readRooms triangles out) ∷ []) r 0 ⌝ }
+{
+    let number = judge_large(Limits::TRIANGLES, vertices, triangles);
+    if number != 0 {
+        return number;
+    }
+    if out < 3 * triangles {
         return 5;
     }
     0

@@ -1,15 +1,16 @@
 -- Laws of lists of numbers, read by their entries: what stands at an index after a store, in a repetition, in a
 -- part, and in a list whose first entries were replaced (what `fill` and `copy` leave). Choices between numbers
 -- stand in front.
-use Prim.Native.Nat.{ℕ, _≤_, _<_}
+use Prim.Native.Nat.{ℕ, _+_, _≤_, _<_}
 use native.Mathlib.Decide.{ℕ-discrete, decLt}
+use native.Mathlib.Numerals.{add-one}
 use native.Mathlib.Omega.{arith}
 use mathlib.Core.Path.{_≡_, _∙_}
 use mathlib.Core.Logic.{_≢_}
-use mathlib.Core.List.{List, _++_}
+use mathlib.Core.List.{List, _∷_, _++_}
 use lib.ListN.{length, set, take, drop, replicate, length-append, length-drop, length-replicate, getD-replicate}
 use lib.ListN.{List·getD-append}
-use lib.Seq.{length-take-le, take-at, getD-set-same, getD-set-other, getD-take}
+use lib.Seq.{length-take-le, take-at, getD-set-same, getD-set-other, getD-take, drop-cons}
 use Rattle.theory.specs.Mesh.{at}
 
 -- ---- choices
@@ -49,6 +50,10 @@ at-replicate n v k l = getD-replicate n k v 0 l
 -- the first entries of a list stand where they stood
 pub at-take : (n : ℕ) (xs : List ℕ) (k : ℕ) → k < n → at (take n xs) k ≡ at xs k
 at-take n xs k l = getD-take n xs k 0 l
+
+-- where an entry stands, it and those from the next place on
+pub drop-inside : (xs : List ℕ) (i : ℕ) → i < length xs → drop i xs ≡ at xs i ∷ drop (i + 1) xs
+drop-inside xs i l = rw (add-one i, drop-cons xs i 0 l)
 
 -- the entries of the first of two lists put together
 pub at-append-left : (xs ys : List ℕ) (k : ℕ) → k < length xs → at (xs ++ ys) k ≡ at xs k

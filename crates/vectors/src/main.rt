@@ -1,14 +1,15 @@
 // Answers a file of cases by the public calls. Standard input holds commands, which are numbers, with what they need
 // after them (reference/README.md, "Vectors"): 1 and 2 make the present mesh, and 7 says how buffers are lent to the
-// calls; 3 splits; 4, 5 and 6 undo; 8 and 9 read and write frames. Each call is answered by a line of numbers and by
-// what it wrote. Where the text is not so, the last line is `wrong`.
+// calls; 3 splits; 4, 5 and 6 undo; 8 and 9 read and write frames, 10 and 11 index texts. Each call is answered by a
+// line of numbers and by what it wrote. Where the text is not so, the last line is `wrong`.
 mod buffers;
 mod numbers;
 mod present;
 mod print;
-mod try_frames;
+mod try_read;
 mod try_split;
 mod try_undo;
+mod try_write;
 
 use io::read_full;
 use io::write_all;
@@ -20,11 +21,14 @@ use present::BYTES;
 use present::ENTRIES;
 use present::Lent;
 use present::Present;
-use try_frames::try_read;
-use try_frames::try_write;
+use try_read::Reader;
+use try_read::try_read;
+use try_read::try_read_index;
 use try_split::try_split;
 use try_undo::try_one;
 use try_undo::try_several;
+use try_write::try_write;
+use try_write::try_write_index;
 
 // The most entries that buffers have to spare.
 const SPARE: u64 = 8;
@@ -95,7 +99,9 @@ fn obey_with(command: u64, value: u64, text: &[u8], present: Present, list: &mut
         5 => try_several(value, false, present, list),
         6 => try_several(value, true, present, list),
         7 => take_lent(value, text, present),
-        8 => try_read(value, text, present, list),
+        8 => try_read(Reader::Frames, value, text, present, list),
+        10 => try_read_index(value, text, present, list),
+        11 => try_write_index(value, present, list),
         _ => present.wrong(),
     }
 }

@@ -1,6 +1,7 @@
 //! Reads cases from standard input and writes their answers to standard output, in the format of README.md, "Vectors".
 
-use reference::{read_frames, split, undo_one, undo_several, write_frames, Answer, One, OneRoom, Search, Several};
+use reference::{read_frames, read_index, split, undo_one, undo_several, write_frames, write_index};
+use reference::{Answer, One, OneRoom, Search, Several};
 use std::fmt::Write as _;
 use std::io::{Read as _, Write as _};
 
@@ -8,6 +9,8 @@ use std::io::{Read as _, Write as _};
 const MOST_ENTRIES: usize = 49_155;
 /// "The file is at most 262,144 bytes."
 const MOST_BYTES: usize = 262_144;
+/// "at most 344,072 bytes are lent" to command 11: 21 for each of 16,384 triangles, and 8 more.
+const MOST_INDEX_BYTES: u64 = 344_072;
 /// Up to this many triangles, both searches are run and must agree.
 const BOTH_SEARCHES: usize = 16;
 
@@ -151,6 +154,15 @@ impl Present {
         self.list = list;
     }
 
+    /// Appends the answer of a call that gives a mesh, and if accepted the mesh, which takes the place of this one.
+    fn take_result(&mut self, call: &str, (a, list): (Answer, Vec<u16>), text: &mut String) {
+        let _ = writeln!(text, "{call} {}", numbers_of(a));
+        if a.refusal == 0 {
+            *text += &list_line(&list);
+            self.take(a.vertices, list);
+        }
+    }
+
     /// By spreading, and for small meshes by both searches, which must agree.
     fn by_search<T: PartialEq>(&self, call: impl Fn(Search) -> T) -> T {
         let answer = call(Search::Spreading);
@@ -182,14 +194,25 @@ impl Present {
         self.by_search(|search| undo_several(self.vertices, &self.list, asked, out, &work, search))
     }
 
-    /// The answer, and all that was lent: "a byte that is as it was lent shows as a hyphen".
-    fn write(&self) -> (Answer, String) {
+    /// The answer's line, and all that was lent: "a byte that is as it was lent shows as a hyphen".
+    fn write(&self) -> String {
         let room = self.lent.room(1, 11 + 15 * self.triangles());
-        let (answer, bytes) = write_frames(self.vertices, &self.list, room);
-        let written = String::from_utf8(bytes).expect("frames are text");
-        let kept = "-".repeat(room - written.len());
-        (answer, written + &kept)
+        let (a, bytes) = write_frames(self.vertices, &self.list, room);
+        format!("write {}\n{}\n", numbers_of(a), all_lent(bytes, room, "-"))
     }
+
+    /// The same of an index text, with its length: "a byte that is as it was lent shows as a dot".
+    fn write_index(&self, asked_room: u64) -> String {
+        let room = asked_room.min(MOST_INDEX_BYTES) as usize;
+        let (a, bytes) = write_index(self.vertices, &self.list, room);
+        format!("write-index {} {}\n{}\n", numbers_of(a), bytes.len(), all_lent(bytes, room, "."))
+    }
+}
+
+/// What was written, and in place of each byte that is as it was lent a sign.
+fn all_lent(written: Vec<u8>, room: usize, sign: &str) -> String {
+    let kept = sign.repeat(room - written.len());
+    String::from_utf8(written).expect("what is written is text") + &kept
 }
 
 /// Carries out one command after the other until the text ends, and appends the answers.
@@ -217,14 +240,7 @@ fn answer(bytes: &[u8], text: &mut String) -> Result<(), Wrong> {
                 let corners = [numbers.entry()?, numbers.entry()?, numbers.entry()?];
                 present.list.extend(corners);
             }
-            3 => {
-                let (a, list) = present.split();
-                let _ = writeln!(text, "split {}", numbers_of(a));
-                if a.refusal == 0 {
-                    *text += &list_line(&list);
-                    present.take(a.vertices, list);
-                }
-            }
+            3 => present.take_result("split", present.split(), text),
             4 => {
                 let asked = numbers.argument()?;
                 let one = present.undo_one(asked);
@@ -259,19 +275,15 @@ fn answer(bytes: &[u8], text: &mut String) -> Result<(), Wrong> {
                 present.lent = Lent { spare: spare as usize, short: numbers.argument()?, fewer: numbers.argument()? };
             }
             8 => {
-                let room = numbers.argument()?;
-                let n = numbers.argument()?;
-                let (a, list) = read_frames(numbers.raw(n)?, room as usize);
-                let _ = writeln!(text, "read {}", numbers_of(a));
-                if a.refusal == 0 {
-                    *text += &list_line(&list);
-                    present.take(a.vertices, list);
-                }
+                let (room, n) = (numbers.argument()?, numbers.argument()?);
+                present.take_result("read", read_frames(numbers.raw(n)?, room as usize), text);
             }
-            9 => {
-                let (a, lent) = present.write();
-                let _ = writeln!(text, "write {}\n{lent}", numbers_of(a));
+            9 => *text += &present.write(),
+            10 => {
+                let (vertices, room, n) = (numbers.argument()?, numbers.argument()?, numbers.argument()?);
+                present.take_result("read-index", read_index(vertices, numbers.raw(n)?, room as usize), text);
             }
+            11 => *text += &present.write_index(numbers.argument()?),
             _ => return Err(Wrong),
         }
     }

@@ -9,6 +9,7 @@ fn all_refuse(mesh: &Mesh, room: &mut Room, refusal: Refusal) {
     assert_eq!(mesh.undo_one(Asked::Least, room), Err(refusal));
     assert_eq!(mesh.undo_several(7, room), Err(refusal));
     assert_eq!(mesh.to_frames(), Err(refusal));
+    assert_eq!(mesh.to_index(), Err(refusal));
 }
 
 // How many entries a room has, as it shows itself.

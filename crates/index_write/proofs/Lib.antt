@@ -1,0 +1,4 @@
+-- Laws for the proofs of the functions.
+pub mod Backwards
+pub mod Judging
+pub mod Texts

@@ -1,0 +1,2 @@
+-- What the writers of faces are lent.
+pub mod Writing
