@@ -3,8 +3,8 @@
 use std::hint::black_box;
 
 use crate::hashed;
-use crate::library::{self, Answer, OneAnswer, OneOutputs, OneWork, SeveralAnswer, SeveralWork, SplitWork};
-use crate::meshes::{self, frames, Mesh, Several, MADE_IN_ORDER, SIZES};
+use crate::library::{self, Answer, OneAnswer, OneOutputs, OneWork, SeveralAnswer, SeveralWork, SplitWork, TextAnswer};
+use crate::meshes::{self, frames, index_text, index_texts, Mesh, Several, MADE_IN_ORDER, SIZES};
 use crate::plain;
 
 type Split = fn(u64, &[u16], &mut [u16], &mut SplitWork) -> Answer;
@@ -12,8 +12,13 @@ type UndoOne = fn(u64, &[u16], u64, &mut OneOutputs, &mut OneWork) -> OneAnswer;
 type UndoSeveral = fn(u64, &[u16], u64, &mut [u16], &mut SeveralWork) -> SeveralAnswer;
 type ReadFrames = fn(&[u8], &mut [u16]) -> Answer;
 type WriteFrames = fn(u64, &[u16], &mut [u8]) -> Answer;
+type ReadIndex = fn(u64, &[u8], &mut [u16]) -> Answer;
+type WriteIndex = fn(u64, &[u16], &mut [u8]) -> TextAnswer;
 
-// The versions by number. A copy of the input is measured as if it were another. Frames have no edges to find by a hash map.
+// Runs a version: it is given the number of vertices, the input and the buffers.
+type Run<T, B> = fn(usize, u64, &[T], &mut B);
+
+// The versions by number. A copy of the input is measured as if it were another. Texts have no edges to find by a hash map.
 pub const LIBRARY: usize = 0;
 pub const PLAIN: usize = 1;
 pub const HASHED: usize = 2;
@@ -23,11 +28,13 @@ pub const SPLITS: [Split; 3] = [library::split, plain::split::split, hashed::spl
 pub const UNDO_ONES: [UndoOne; 3] = [library::undo_one, plain::undo_one::undo_one, hashed::undo_one::undo_one];
 pub const UNDO_SEVERALS: [UndoSeveral; 3] =
     [library::undo_several, plain::undo_several::undo_several, hashed::undo_several::undo_several];
-pub const READS: [ReadFrames; 2] = [library::read_frames, plain::frames::read_frames];
-pub const WRITES: [WriteFrames; 2] = [library::write_frames, plain::frames::write_frames];
+pub const FRAME_READS: [ReadFrames; 2] = [library::read_frames, plain::frames::read_frames];
+pub const FRAME_WRITES: [WriteFrames; 2] = [library::write_frames, plain::frames::write_frames];
+pub const INDEX_READS: [ReadIndex; 2] = [library::read_index, plain::index::read_index];
+pub const INDEX_WRITES: [WriteIndex; 2] = [library::write_index, plain::index::write_index];
 
 const OF_MESHES: &[usize] = &[LIBRARY, PLAIN, HASHED, COPY];
-const OF_FRAMES: &[usize] = &[LIBRARY, PLAIN, COPY];
+const OF_TEXTS: &[usize] = &[LIBRARY, PLAIN, COPY];
 
 // The number that undo one is asked: the least role that has a reading.
 pub const LEAST: u64 = 4;
@@ -40,7 +47,9 @@ const UNDO_ONE: &str = "undo one";
 const UNDO_SEVERAL: &str = "undo several";
 const READ_FRAMES: &str = "read frames";
 const WRITE_FRAMES: &str = "write frames";
-pub const CALLS: [&str; 5] = [SPLIT, UNDO_ONE, UNDO_SEVERAL, READ_FRAMES, WRITE_FRAMES];
+const READ_INDEX: &str = "read index";
+const WRITE_INDEX: &str = "write index";
+pub const CALLS: [&str; 7] = [SPLIT, UNDO_ONE, UNDO_SEVERAL, READ_FRAMES, WRITE_FRAMES, READ_INDEX, WRITE_INDEX];
 
 pub struct Case {
     pub call: &'static str,
@@ -48,6 +57,8 @@ pub struct Case {
     pub order: &'static str,
     // Of the input.
     pub triangles: usize,
+    // Of the text that the call reads or writes, if it does.
+    pub bytes: Option<usize>,
     // What is measured, by number, and what runs it once.
     pub versions: &'static [usize],
     pub run: Box<dyn FnMut(usize)>,
@@ -64,9 +75,11 @@ pub fn of_size(size: usize) -> Vec<Case> {
     let splits = meshes::to_split(size).into_iter().map(split);
     let undo_ones = meshes::to_undo(size).into_iter().map(undo_one);
     let undo_severals = meshes::to_undo_several(size).into_iter().map(|several| undo_several(several.mesh));
-    let reads = meshes::to_write(size).into_iter().map(read_frames);
-    let writes = meshes::to_write(size).into_iter().map(write_frames);
-    splits.chain(undo_ones).chain(undo_severals).chain(reads).chain(writes).collect()
+    let meshes = splits.chain(undo_ones).chain(undo_severals);
+    let written = meshes::to_write(size);
+    let frames = written.iter().map(read_frames).chain(written.iter().map(write_frames));
+    let index = written.iter().flat_map(read_index).chain(written.iter().map(write_index));
+    meshes.chain(frames).chain(index).collect()
 }
 
 // The library's undo several and its undo one of the same meshes, each with the number of levels.
@@ -119,28 +132,53 @@ fn undo_several(mesh: Mesh) -> Case {
     })
 }
 
-fn read_frames(mesh: Mesh) -> Case {
+fn read_frames(mesh: &Mesh) -> Case {
+    read(READ_FRAMES, mesh, &frames(mesh), |version, _, bytes, out| {
+        black_box(FRAME_READS[version](bytes, out));
+    })
+}
+
+fn write_frames(mesh: &Mesh) -> Case {
+    write(WRITE_FRAMES, mesh, frames(mesh), |version, vertices, list, out| {
+        black_box(FRAME_WRITES[version](vertices, list, out));
+    })
+}
+
+// A case for each spelling.
+fn read_index(mesh: &Mesh) -> [Case; 2] {
+    index_texts(mesh).map(|(name, text)| {
+        let case = read(READ_INDEX, mesh, &text, |version, vertices, text, out| {
+            black_box(INDEX_READS[version](vertices, text, out));
+        });
+        Case { mesh: name, ..case }
+    })
+}
+
+fn write_index(mesh: &Mesh) -> Case {
+    write(WRITE_INDEX, mesh, index_text(mesh), |version, vertices, list, out| {
+        black_box(INDEX_WRITES[version](vertices, list, out));
+    })
+}
+
+// A case of a call that reads a mesh from a text.
+fn read(call: &'static str, mesh: &Mesh, text: &[u8], run: Run<u8, Vec<u16>>) -> Case {
     let out = vec![LENT; mesh.list.len()];
-    case(READ_FRAMES, OF_FRAMES, &mesh, &frames(&mesh), out, |version, _, bytes, out| {
-        black_box(READS[version](bytes, out));
-    })
+    Case { bytes: Some(text.len()), ..case(call, OF_TEXTS, mesh, text, out, run) }
 }
 
-fn write_frames(mesh: Mesh) -> Case {
-    let out = frames(&mesh);
-    case(WRITE_FRAMES, OF_FRAMES, &mesh, &mesh.list, out, |version, vertices, list, out| {
-        black_box(WRITES[version](vertices, list, out));
-    })
+// A case of a call that writes a mesh as a text, over the same text.
+fn write(call: &'static str, mesh: &Mesh, text: Vec<u8>, run: Run<u16, Vec<u8>>) -> Case {
+    Case { bytes: Some(text.len()), ..case(call, OF_TEXTS, mesh, &mesh.list, text, run) }
 }
 
-// A case of a call, of which `run` runs a version: it is given the number of vertices, the input and the buffers.
+// A case of a call, without a text.
 fn case<T: Copy + 'static, B: 'static>(
     call: &'static str,
     versions: &'static [usize],
     mesh: &Mesh,
     input: &[T],
     mut buffers: B,
-    run: fn(usize, u64, &[T], &mut B),
+    run: Run<T, B>,
 ) -> Case {
     let vertices = mesh.vertices as u64;
     let input = input.to_vec();
@@ -154,7 +192,7 @@ fn case<T: Copy + 'static, B: 'static>(
             black_box(&mut buffers);
         }
     };
-    Case { call, mesh: mesh.name, order: mesh.order, triangles: mesh.list.len() / 3, versions, run: Box::new(run) }
+    Case { call, mesh: mesh.name, order: mesh.order, triangles: mesh.list.len() / 3, bytes: None, versions, run: Box::new(run) }
 }
 
 // An entry of a buffer as it is lent: not 0, so that a call that does not clear it is seen.

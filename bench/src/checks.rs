@@ -1,26 +1,26 @@
 // All versions give the answers that another way gives, on every mesh that is measured, and each refusal once: so all do the work,
-// and the judging, that the times are to include.
+// and the judging, that the times are to include. The calls that read and write texts are in `text_checks`.
 use crate::cases::{
-    split_buffers, undo_one_buffers, undo_several_buffers, HASHED, LEAST, LENT, MOST_LEVELS, NAMES, READS, SPLITS, UNDO_ONES,
-    UNDO_SEVERALS, WRITES,
+    split_buffers, undo_one_buffers, undo_several_buffers, HASHED, LEAST, LENT, MOST_LEVELS, NAMES, SPLITS, UNDO_ONES,
+    UNDO_SEVERALS,
 };
 use crate::library::{Answer, OneAnswer, OneOutputs, SeveralAnswer};
-use crate::meshes::{self, frames, splitting, Mesh, Several, MOST, MOST_TO_SPLIT, SIZES};
+use crate::meshes::{self, splitting, Mesh, Several, MOST, MOST_TO_SPLIT, SIZES};
+use crate::text_checks::{check_text_refusals, check_texts};
 
-// Those that do more than to read and write frames.
+// Those that do more than to read and write texts.
 const VERSIONS: std::ops::Range<usize> = 0..SPLITS.len();
 
 pub fn check_all() {
     check_one_triangle();
     check_mesh_refusals();
     check_other_refusals();
-    check_read_refusals();
-    check_write_refusals();
+    check_text_refusals();
     for size in SIZES {
         meshes::to_split(size).iter().for_each(check_split);
         meshes::to_undo(size).iter().for_each(check_undo_one);
         meshes::to_undo_several(size).iter().for_each(check_undo_several);
-        meshes::to_write(size).iter().for_each(check_frames);
+        meshes::to_write(size).iter().for_each(check_texts);
     }
 }
 
@@ -112,69 +112,6 @@ fn check_other_refusals() {
             let answer = UNDO_SEVERALS[version](vertices as u64, &list, MOST_LEVELS, &mut out, &mut work);
             assert_eq!(answer.refusal, 5, "{name}: buffer {short} of undo several is short");
         }
-    }
-}
-
-// What reading refuses, each with its place, and the frames that are just accepted.
-fn check_read_refusals() {
-    const MESH: &str = "4D00030002\n";
-    const LINE: &str = "46000000010002\n";
-    let two = [MESH, LINE, LINE].concat();
-    let cases = [
-        (two.clone(), 0, 0),
-        ("4D7FFF0000\n".into(), 0, 0),
-        ("".into(), 12, 0),
-        ("4D00030002".into(), 12, 0),
-        ("4d00030002\n".into(), 12, 0),
-        ("4D80000000\n".into(), 4, 0),
-        ("4D00034001\n".into(), 4, 0),
-        ([MESH, LINE].concat(), 12, 2),
-        ([MESH, LINE, &LINE[..14]].concat(), 12, 2),
-        ([MESH, "4600000001000a\n", LINE].concat(), 12, 1),
-        ([MESH, LINE, "47000000010002\n"].concat(), 12, 2),
-        (two.clone() + "\n", 12, 3),
-    ];
-    for version in 0..READS.len() {
-        for (text, refusal, place) in &cases {
-            let mut out = vec![LENT; 6];
-            let answer = READS[version](text.as_bytes(), &mut out);
-            assert_eq!((answer.refusal, answer.place), (*refusal, *place), "{} reads {text:?}", NAMES[version]);
-            assert!(*refusal == 0 || out == [LENT; 6], "{}: a refusal writes", NAMES[version]);
-        }
-        assert_eq!(READS[version](two.as_bytes(), &mut [LENT; 5]).refusal, 5, "{} reads into a short buffer", NAMES[version]);
-    }
-}
-
-fn check_write_refusals() {
-    let large = vec![0; 3 * (MOST + 1)];
-    let cases: [(u64, &[u16], usize, u64); 6] = [
-        (0, &[], 11, 0),
-        (0, &[], 10, 5),
-        (3, &[0, 1, 2], 25, 5),
-        (3, &[0, 1], 26, 2),
-        (32_768, &[0, 1, 2], 26, 4),
-        (3, &large, 15 * large.len(), 4),
-    ];
-    for version in 0..WRITES.len() {
-        for (vertices, list, room, refusal) in cases {
-            let answer = WRITES[version](vertices, list, &mut vec![0; room]);
-            let triangles = if refusal == 0 { list.len() as u64 / 3 } else { 0 };
-            assert_eq!((answer.refusal, answer.triangles), (refusal, triangles), "{} writes {vertices}", NAMES[version]);
-        }
-    }
-}
-
-// A mesh is written as the standard library formats it, and read back.
-fn check_frames(mesh: &Mesh) {
-    let bytes = frames(mesh);
-    let expected = Answer { refusal: 0, place: 0, vertices: mesh.vertices as u64, triangles: mesh.list.len() as u64 / 3 };
-    for version in 0..READS.len() {
-        let mut written = vec![0; bytes.len()];
-        assert_eq!(WRITES[version](mesh.vertices as u64, &mesh.list, &mut written), expected, "{}", NAMES[version]);
-        assert!(written == bytes, "{} writes other frames", NAMES[version]);
-        let mut read = vec![LENT; mesh.list.len()];
-        assert_eq!(READS[version](&bytes, &mut read), expected, "{}", NAMES[version]);
-        assert!(read == mesh.list, "{} reads another mesh", NAMES[version]);
     }
 }
 

@@ -11,6 +11,7 @@ mod others;
 mod plain;
 mod refusals;
 mod tables;
+mod text_checks;
 
 use std::env;
 use std::path::Path;

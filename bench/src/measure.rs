@@ -17,12 +17,18 @@ pub struct Row {
     pub mesh: &'static str,
     pub order: &'static str,
     pub triangles: usize,
+    pub bytes: Option<usize>,
     times: [Vec<f64>; NAMES.len()],
 }
 
 impl Row {
     pub fn time(&self, version: usize) -> Option<f64> {
         median(self.times[version].clone())
+    }
+
+    // In millions of bytes of the text per second, if there is one.
+    pub fn speed(&self, version: usize) -> Option<f64> {
+        Some(1_000.0 * self.bytes? as f64 / (self.triangles as f64 * self.time(version)?))
     }
 
     // The time of one version as a multiple of another's.
@@ -52,7 +58,7 @@ pub fn measure(mut cases: Vec<Case>) -> Vec<Row> {
             repeat(case, times);
         }
     }
-    let row = |(Case { call, mesh, order, triangles, .. }, times)| Row { call, mesh, order, triangles, times };
+    let row = |(Case { call, mesh, order, triangles, bytes, .. }, times)| Row { call, mesh, order, triangles, bytes, times };
     cases.into_iter().zip(times).map(row).collect()
 }
 

@@ -70,7 +70,7 @@ pub fn to_undo_several(size: usize) -> Vec<Several> {
     firsts.flat_map(both).collect()
 }
 
-// The meshes to write as frames and to read from them, of which the numbers alone matter.
+// The meshes to write as texts and to read from them, of which the numbers alone matter.
 pub fn to_write(size: usize) -> Vec<Mesh> {
     in_both_orders([torus(size)], &mut Random::new())
 }
@@ -79,6 +79,20 @@ pub fn to_write(size: usize) -> Vec<Mesh> {
 pub fn frames(mesh: &Mesh) -> Vec<u8> {
     let lines = mesh.list.chunks_exact(3).map(|t| format!("46{:04X}{:04X}{:04X}\n", t[0], t[1], t[2]));
     [format!("4D{:04X}{:04X}\n", mesh.vertices, mesh.list.len() / 3)].into_iter().chain(lines).collect::<String>().into_bytes()
+}
+
+// The index text of a mesh in the normal spelling, by the same.
+pub fn index_text(mesh: &Mesh) -> Vec<u8> {
+    let faces = mesh.list.chunks_exact(3).map(|t| format!("{} {} {} -1", t[0], t[1], t[2]));
+    faces.collect::<Vec<_>>().join(" ").into_bytes()
+}
+
+// The index texts of a mesh that are read, each by the name that the mesh then has: the normal spelling, and one as exporters
+// write it, with a comment at the head, commas, and a line for each face.
+pub fn index_texts(mesh: &Mesh) -> [(&'static str, Vec<u8>); 2] {
+    let lines = mesh.list.chunks_exact(3).map(|t| format!("\t{}, {}, {}, -1,\n", t[0], t[1], t[2]));
+    let exported = [format!("# {} vertices\n", mesh.vertices)].into_iter().chain(lines).collect::<String>().into_bytes();
+    [(mesh.name, index_text(mesh)), ("exported", exported)]
 }
 
 // Each mesh in the order that its making gives and shuffled, always the same ones.

@@ -1,6 +1,6 @@
 // What the plain and the hashed version share, since it costs nothing to speak of: the refusals that numbers and lengths decide,
 // 1 to 5, and the making of answers.
-use crate::library::{Answer, OneAnswer, OneOutputs, SeveralAnswer};
+use crate::library::{Answer, OneAnswer, OneOutputs, SeveralAnswer, TextAnswer};
 
 pub const ANY_ROLE: u64 = 4;
 
@@ -43,15 +43,25 @@ pub fn judge_undo_several(vertices: u64, entries: usize, asked: u64, out: usize,
     refuse(5, out < entries || work < vertices as usize + entries)
 }
 
-pub fn judge_read_frames(vertices: u64, triangles: usize, out: usize) -> Result<(), Refusal> {
+// Of frames and of an index text.
+pub fn judge_read(vertices: u64, triangles: usize, out: usize) -> Result<(), Refusal> {
     judge_counts(MOST_TRIANGLES, vertices, triangles)?;
-    refuse(5, out < 3 * triangles)
+    judge_room(3 * triangles, out)
 }
 
 pub fn judge_write_frames(vertices: u64, entries: usize, out: usize) -> Result<(), Refusal> {
+    judge_write(vertices, entries)?;
+    judge_room(11 + 15 * (entries / 3), out)
+}
+
+// Of frames and of an index text, before the bytes are counted.
+pub fn judge_write(vertices: u64, entries: usize) -> Result<(), Refusal> {
     refuse(2, !entries.is_multiple_of(3))?;
-    judge_counts(MOST_TRIANGLES, vertices, entries / 3)?;
-    refuse(5, out < 11 + 15 * (entries / 3))
+    judge_counts(MOST_TRIANGLES, vertices, entries / 3)
+}
+
+pub fn judge_room(needed: usize, lent: usize) -> Result<(), Refusal> {
+    refuse(5, lent < needed)
 }
 
 // Refusals 2 to 4.
@@ -77,6 +87,13 @@ pub fn one_answer(result: Result<(usize, Counts), Refusal>) -> OneAnswer {
     let role = result.as_ref().map_or(0, |&(role, _)| role as u64);
     let Answer { refusal, place, vertices, triangles } = answer(result.map(|(_, counts)| counts));
     OneAnswer { refusal, place, vertices, triangles, role }
+}
+
+// Of write index, by the bytes that were written and what the mesh has.
+pub fn text_answer(result: Result<(usize, Counts), Refusal>) -> TextAnswer {
+    let bytes = result.as_ref().map_or(0, |&(bytes, _)| bytes as u64);
+    let Answer { refusal, place, vertices, triangles } = answer(result.map(|(_, counts)| counts));
+    TextAnswer { refusal, place, vertices, triangles, bytes }
 }
 
 pub fn several_answer(result: Result<SeveralAnswer, Refusal>) -> SeveralAnswer {

@@ -23,6 +23,7 @@ pub fn print_all(folder: Option<&Path>) {
     let rows = measure(cases::all());
     let calls: Vec<&[Row]> = rows.chunk_by(|one, other| one.call == other.call).collect();
     calls.iter().for_each(|call| print_call(call));
+    print_speeds(&rows);
     print_others(calls[0], &Others::below(folder));
     print_several_and_one();
     print_shuffled_and_in_order();
@@ -43,6 +44,17 @@ fn print_call(call: &[Row]) {
 fn with_growth(call: &[Row]) -> impl Iterator<Item = (&Row, Option<f64>)> {
     let series = call.chunk_by(Row::is_of);
     series.flat_map(|rows| rows.iter().map(|row| (row, row.growth(&rows[0]).filter(|_| rows.len() == SIZES.len()))))
+}
+
+// Of the calls that read or write a text, on the meshes of the greatest size.
+fn print_speeds(rows: &[Row]) {
+    let columns = ["bytes", "library MB/s", "plain MB/s"];
+    print_head("bytes per second", ["call"].into_iter().chain(LABELS).chain(columns));
+    for row in rows.iter().filter(|row| row.triangles == MOST) {
+        let Some(bytes) = row.bytes else { continue };
+        let speeds = [LIBRARY, PLAIN].map(|version| number(row.speed(version)));
+        print_row([row.call.into()].into_iter().chain(labels(row)).chain([thousands(bytes)]).chain(speeds));
+    }
 }
 
 fn print_others(splits: &[Row], others: &Others) {

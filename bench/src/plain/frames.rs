@@ -1,6 +1,6 @@
 // Read frames and write frames. As in the library every line is judged before the first entry is written.
 use crate::library::Answer;
-use crate::refusals::{answer, judge_read_frames, judge_write_frames, Counts, Refusal};
+use crate::refusals::{answer, judge_read, judge_write_frames, Counts, Refusal};
 
 // The bytes of the first line, and of each of the others.
 const MESH_LINE: usize = 11;
@@ -15,7 +15,7 @@ pub fn read_frames(bytes: &[u8], out: &mut [u16]) -> Answer {
 fn read(bytes: &[u8], out: &mut [u16]) -> Result<Counts, Refusal> {
     let (mesh, lines) = bytes.split_at_checked(MESH_LINE).ok_or(Refusal(12, 0))?;
     let [vertices, triangles] = numbers(mesh, b"4D").ok_or(Refusal(12, 0))?.map(usize::from);
-    judge_read_frames(vertices as u64, triangles, out.len())?;
+    judge_read(vertices as u64, triangles, out.len())?;
 
     if let Some(k) = lines.chunks(TRIANGLE_LINE).take(triangles).position(|line| triangle(line).is_none()) {
         return Err(Refusal(12, k + 1));

@@ -2,6 +2,7 @@
 // go in order and checked indices elsewhere. Here stands what all calls share. Half-edge h runs from corner h to the next corner
 // of its triangle.
 pub mod frames;
+pub mod index;
 pub mod split;
 mod undo;
 pub mod undo_one;
