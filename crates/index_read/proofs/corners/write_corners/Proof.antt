@@ -44,10 +44,10 @@ module _ {text out₀ out : List ℕ} {at corners face : ℕ} (I : Turn text out
         omega arith
 
     module _ {more next end : ℕ} (holds : made ≡ step.Holds more next end) where
-      -- there is room for the run's corner
-      corner-lent : CornerLent answer out corners
-      corner-lent =
-          record { room = omega (arith, met-few M holds (I .lent .list) (I .lent .right), I .lent .room, kept) }
+      -- there is room for the run's corner after those before
+      corner-lent : {k : ℕ} → k ≡ corners → CornerLent answer out k
+      corner-lent e =
+          record { room = omega (arith, e, met-few M holds (I .lent .list) (I .lent .right), I .lent .room, kept) }
 
       -- it stands after those before
       turned : {place : ℕ} {out′ : List ℕ} → out′ ≡ cornerWritten answer out corners → NextRun text end place
@@ -128,7 +128,7 @@ write-corner-requires : tie.Need-write-corner-requires Inv-loop μ-loop
 write-corner-requires c κs =
     let m = c .before .before in
     let t = m .before .before in
-    corner-lent (turn t .loop .inv) (met t) (m .more .given .1)
+    corner-lent (turn t .loop .inv) (met t) (m .more .given .1) (omega arith)
 
 next-run-requires-2 : tie.Need-next-run-requires-2 Inv-loop μ-loop
 next-run-requires-2 c κs =
