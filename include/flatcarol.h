@@ -40,12 +40,14 @@ extern "C" {
 
 /* ---- answers */
 
-/* What split, the calls for frames and read index answer. In a refusal all but the first two numbers are 0. */
+/* What split answers. In a refusal, here and below, all but the first two numbers are 0. */
 typedef struct flatcarol_answer {
-    uint64_t refusal;   /* 0 when accepted, else one of enum flatcarol_refusal */
-    uint64_t place;     /* where it was refused, as the refusal says; else 0 */
-    uint64_t vertices;  /* of the resulting mesh */
-    uint64_t triangles; /* of the resulting mesh */
+    uint64_t refusal;        /* 0 when accepted, else one of enum flatcarol_refusal */
+    uint64_t place;          /* where it was refused, as the refusal says; else 0 */
+    uint64_t vertices;       /* of the resulting mesh */
+    uint64_t triangles;      /* of the resulting mesh */
+    uint64_t edges;          /* of the resulting mesh: the pairs of vertices that some triangle has */
+    uint64_t boundary_edges; /* of these, the ones that exactly one triangle has: with none there is no hole */
 } flatcarol_answer;
 
 /* What undo one answers. */
@@ -54,6 +56,8 @@ typedef struct flatcarol_one_answer {
     uint64_t place;
     uint64_t vertices;
     uint64_t triangles;
+    uint64_t edges;
+    uint64_t boundary_edges;
     uint64_t role; /* that triangle 0 has in the reading returned, 0 to 3 */
 } flatcarol_one_answer;
 
@@ -63,9 +67,19 @@ typedef struct flatcarol_several_answer {
     uint64_t place;
     uint64_t vertices;
     uint64_t triangles;
+    uint64_t edges;
+    uint64_t boundary_edges;
     uint64_t levels;  /* how many were undone */
     uint8_t roles[7]; /* the role taken at each level, first undone first; 0 in the places behind */
 } flatcarol_several_answer;
+
+/* What read frames, write frames and read index answer. They do not judge the corners, and so count no edges. */
+typedef struct flatcarol_frames_answer {
+    uint64_t refusal;
+    uint64_t place;
+    uint64_t vertices;  /* of the mesh that was read or written */
+    uint64_t triangles; /* of the mesh that was read or written */
+} flatcarol_frames_answer;
 
 /* What write index answers. */
 typedef struct flatcarol_text_answer {
@@ -216,8 +230,8 @@ flatcarol_one_answer flatcarol_undo_one(
     uint16_t *work9, size_t work9_len);
 
 /* Undoes up to so many splits as asked, 0 to 7, each in the least role that has a reading. It stops where no role has
-   one: that is no refusal. The mesh that is left goes to the first entries of out, which needs 3F. Refusals 1 to
-   10. */
+   one: that is no refusal. The mesh that is left goes to the first entries of out, which needs 3F. Asked 0, that is the
+   list as it came, and the answer has its counts. Refusals 1 to 10. */
 flatcarol_several_answer flatcarol_undo_several(
     uint64_t vertices,
     const uint16_t *list, size_t list_len,
@@ -236,13 +250,13 @@ flatcarol_several_answer flatcarol_undo_several(
 
 /* Reads a mesh from its frames. The corners, which are not judged, go to the first entries of out, which needs 3F with
    the F of the first line. Refusals 12 for the first line, then 4 and 5, then 12 for later lines. */
-flatcarol_answer flatcarol_read_frames(
+flatcarol_frames_answer flatcarol_read_frames(
     const uint8_t *bytes, size_t bytes_len,
     uint16_t *out, size_t out_len);
 
 /* Writes a mesh, which may have no triangle and whose corners are not judged, as frames. They go to the first bytes of
    out, which needs 11 + 15F. Refusals 2, 4 and 5. */
-flatcarol_answer flatcarol_write_frames(
+flatcarol_frames_answer flatcarol_write_frames(
     uint64_t vertices,
     const uint16_t *list, size_t list_len,
     uint8_t *out, size_t out_len);
@@ -251,7 +265,7 @@ flatcarol_answer flatcarol_write_frames(
    with blanks, tabs, CR, LF or commas between them, -1 after each face, where the last may be missing, and comments
    from # to the end of the line. The corners, which are not judged against the number of vertices, go to the first
    entries of out, which needs 3F. Refusals 14 for the whole text, then 4 and 5. */
-flatcarol_answer flatcarol_read_index(
+flatcarol_frames_answer flatcarol_read_index(
     uint64_t vertices,
     const uint8_t *text, size_t text_len,
     uint16_t *out, size_t out_len);
@@ -371,26 +385,38 @@ static inline flatcarol_several_answer flatcarol_undo_several_in(
 
 FLATCAROL_HOLDS(size_is_64_bit, sizeof(size_t) == 8);
 
-FLATCAROL_HOLDS(answer_size, sizeof(flatcarol_answer) == 32);
+FLATCAROL_HOLDS(answer_size, sizeof(flatcarol_answer) == 48);
 FLATCAROL_HOLDS(answer_refusal, offsetof(flatcarol_answer, refusal) == 0);
 FLATCAROL_HOLDS(answer_place, offsetof(flatcarol_answer, place) == 8);
 FLATCAROL_HOLDS(answer_vertices, offsetof(flatcarol_answer, vertices) == 16);
 FLATCAROL_HOLDS(answer_triangles, offsetof(flatcarol_answer, triangles) == 24);
+FLATCAROL_HOLDS(answer_edges, offsetof(flatcarol_answer, edges) == 32);
+FLATCAROL_HOLDS(answer_boundary_edges, offsetof(flatcarol_answer, boundary_edges) == 40);
 
-FLATCAROL_HOLDS(one_answer_size, sizeof(flatcarol_one_answer) == 40);
+FLATCAROL_HOLDS(one_answer_size, sizeof(flatcarol_one_answer) == 56);
 FLATCAROL_HOLDS(one_answer_refusal, offsetof(flatcarol_one_answer, refusal) == 0);
 FLATCAROL_HOLDS(one_answer_place, offsetof(flatcarol_one_answer, place) == 8);
 FLATCAROL_HOLDS(one_answer_vertices, offsetof(flatcarol_one_answer, vertices) == 16);
 FLATCAROL_HOLDS(one_answer_triangles, offsetof(flatcarol_one_answer, triangles) == 24);
-FLATCAROL_HOLDS(one_answer_role, offsetof(flatcarol_one_answer, role) == 32);
+FLATCAROL_HOLDS(one_answer_edges, offsetof(flatcarol_one_answer, edges) == 32);
+FLATCAROL_HOLDS(one_answer_boundary_edges, offsetof(flatcarol_one_answer, boundary_edges) == 40);
+FLATCAROL_HOLDS(one_answer_role, offsetof(flatcarol_one_answer, role) == 48);
 
-FLATCAROL_HOLDS(several_answer_size, sizeof(flatcarol_several_answer) == 48);
+FLATCAROL_HOLDS(several_answer_size, sizeof(flatcarol_several_answer) == 64);
 FLATCAROL_HOLDS(several_answer_refusal, offsetof(flatcarol_several_answer, refusal) == 0);
 FLATCAROL_HOLDS(several_answer_place, offsetof(flatcarol_several_answer, place) == 8);
 FLATCAROL_HOLDS(several_answer_vertices, offsetof(flatcarol_several_answer, vertices) == 16);
 FLATCAROL_HOLDS(several_answer_triangles, offsetof(flatcarol_several_answer, triangles) == 24);
-FLATCAROL_HOLDS(several_answer_levels, offsetof(flatcarol_several_answer, levels) == 32);
-FLATCAROL_HOLDS(several_answer_roles, offsetof(flatcarol_several_answer, roles) == 40);
+FLATCAROL_HOLDS(several_answer_edges, offsetof(flatcarol_several_answer, edges) == 32);
+FLATCAROL_HOLDS(several_answer_boundary_edges, offsetof(flatcarol_several_answer, boundary_edges) == 40);
+FLATCAROL_HOLDS(several_answer_levels, offsetof(flatcarol_several_answer, levels) == 48);
+FLATCAROL_HOLDS(several_answer_roles, offsetof(flatcarol_several_answer, roles) == 56);
+
+FLATCAROL_HOLDS(frames_answer_size, sizeof(flatcarol_frames_answer) == 32);
+FLATCAROL_HOLDS(frames_answer_refusal, offsetof(flatcarol_frames_answer, refusal) == 0);
+FLATCAROL_HOLDS(frames_answer_place, offsetof(flatcarol_frames_answer, place) == 8);
+FLATCAROL_HOLDS(frames_answer_vertices, offsetof(flatcarol_frames_answer, vertices) == 16);
+FLATCAROL_HOLDS(frames_answer_triangles, offsetof(flatcarol_frames_answer, triangles) == 24);
 
 FLATCAROL_HOLDS(text_answer_size, sizeof(flatcarol_text_answer) == 40);
 FLATCAROL_HOLDS(text_answer_refusal, offsetof(flatcarol_text_answer, refusal) == 0);

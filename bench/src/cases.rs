@@ -3,20 +3,21 @@
 use std::hint::black_box;
 
 use crate::hashed;
-use crate::library::{self, Answer, OneAnswer, OneOutputs, OneWork, SeveralAnswer, SeveralWork, SplitWork, TextAnswer};
+use crate::library::{self, Answer, FramesAnswer, OneAnswer, OneOutputs, SeveralAnswer, TextAnswer};
+use crate::library::{OneWork, SeveralWork, SplitWork};
 use crate::meshes::{self, frames, index_text, index_texts, Mesh, Several, MADE_IN_ORDER, SIZES};
 use crate::plain;
 
 type Split = fn(u64, &[u16], &mut [u16], &mut SplitWork) -> Answer;
 type UndoOne = fn(u64, &[u16], u64, &mut OneOutputs, &mut OneWork) -> OneAnswer;
 type UndoSeveral = fn(u64, &[u16], u64, &mut [u16], &mut SeveralWork) -> SeveralAnswer;
-type ReadFrames = fn(&[u8], &mut [u16]) -> Answer;
-type WriteFrames = fn(u64, &[u16], &mut [u8]) -> Answer;
-type ReadIndex = fn(u64, &[u8], &mut [u16]) -> Answer;
+type ReadFrames = fn(&[u8], &mut [u16]) -> FramesAnswer;
+type WriteFrames = fn(u64, &[u16], &mut [u8]) -> FramesAnswer;
+type ReadIndex = fn(u64, &[u8], &mut [u16]) -> FramesAnswer;
 type WriteIndex = fn(u64, &[u16], &mut [u8]) -> TextAnswer;
 
 // Runs a version: it is given the number of vertices, the input and the buffers.
-type Run<T, B> = fn(usize, u64, &[T], &mut B);
+pub type Run<T, B> = fn(usize, u64, &[T], &mut B);
 
 // The versions by number. A copy of the input is measured as if it were another. Texts have no edges to find by a hash map.
 pub const LIBRARY: usize = 0;
@@ -43,8 +44,8 @@ pub const LEAST: u64 = 4;
 pub const MOST_LEVELS: u64 = 7;
 
 pub const SPLIT: &str = "split";
-const UNDO_ONE: &str = "undo one";
-const UNDO_SEVERAL: &str = "undo several";
+pub const UNDO_ONE: &str = "undo one";
+pub const UNDO_SEVERAL: &str = "undo several";
 const READ_FRAMES: &str = "read frames";
 const WRITE_FRAMES: &str = "write frames";
 const READ_INDEX: &str = "read index";
@@ -65,7 +66,7 @@ pub struct Case {
 }
 
 // All cases, those of a call together, and in these those of a kind of mesh in an order, by size.
-pub fn all() -> Vec<Case> {
+pub fn all(of_size: fn(usize) -> Vec<Case>) -> Vec<Case> {
     let mut all: Vec<Case> = SIZES.into_iter().flat_map(of_size).collect();
     all.sort_by_key(|case| (CALLS.iter().position(|&call| call == case.call), case.mesh, case.order));
     all
@@ -172,7 +173,7 @@ fn write(call: &'static str, mesh: &Mesh, text: Vec<u8>, run: Run<u16, Vec<u8>>)
 }
 
 // A case of a call, without a text.
-fn case<T: Copy + 'static, B: 'static>(
+pub fn case<T: Copy + 'static, B: 'static>(
     call: &'static str,
     versions: &'static [usize],
     mesh: &Mesh,

@@ -5,7 +5,7 @@ use crate::cases::{
     UNDO_SEVERALS,
 };
 use crate::library::{Answer, OneAnswer, OneOutputs, SeveralAnswer};
-use crate::meshes::{self, splitting, Mesh, Several, MOST, MOST_TO_SPLIT, SIZES};
+use crate::meshes::{self, edge_counts, splitting, Mesh, Several, MOST, MOST_TO_SPLIT, SIZES};
 use crate::text_checks::{check_text_refusals, check_texts};
 
 // Those that do more than to read and write texts.
@@ -32,15 +32,17 @@ fn check_one_triangle() {
         let what = format!("{} on one triangle", NAMES[version]);
         let (mut out, mut work) = split_buffers(3, &coarse);
         let answer = SPLITS[version](3, &coarse, &mut out, &mut work);
-        assert_eq!(answer, Answer { refusal: 0, place: 0, vertices: 6, triangles: 4 }, "{what}");
+        let expected = Answer { refusal: 0, place: 0, vertices: 6, triangles: 4, edges: 9, boundary_edges: 6 };
+        assert_eq!(answer, expected, "{what}");
         assert_eq!(out, fine, "{what}");
 
         let (mut out, mut work) = undo_one_buffers(6, &fine);
         let answer = UNDO_ONES[version](6, &fine, LEAST, &mut out, &mut work);
-        assert_eq!(answer, OneAnswer { refusal: 0, place: 0, vertices: 3, triangles: 1, role: 0 }, "{what}");
+        let expected = OneAnswer { refusal: 0, place: 0, vertices: 3, triangles: 1, edges: 3, boundary_edges: 3, role: 0 };
+        assert_eq!(answer, expected, "{what}");
         assert_eq!(out, reading, "{what}");
 
-        let answer = SeveralAnswer { vertices: 3, triangles: 1, levels: 1, ..Default::default() };
+        let answer = SeveralAnswer { vertices: 3, triangles: 1, edges: 3, boundary_edges: 3, levels: 1, ..Default::default() };
         check_levels(version, (6, &fine), MOST_LEVELS, answer, &coarse);
     }
 }
@@ -64,15 +66,18 @@ fn check_mesh_refusals() {
         for (vertices, list, refusal, place) in cases.into_iter().chain([(3, &large(MOST_TO_SPLIT)[..], 4, 0)]) {
             let (mut out, mut work) = split_buffers(vertices as usize, list);
             let answer = SPLITS[version](vertices, list, &mut out, &mut work);
-            assert_eq!((answer.refusal, answer.place), (refusal, place), "{} split {vertices}, {list:?}", NAMES[version]);
+            let expected = match refusal {
+                0 => split_answer(&splitting(vertices as usize, list)),
+                _ => Answer { refusal, place, ..Default::default() },
+            };
+            assert_eq!(answer, expected, "{} split {vertices}, {list:?}", NAMES[version]);
             assert!(refusal == 0 || out.iter().all(|&entry| entry == LENT), "{}: refusal {refusal} writes", NAMES[version]);
             check_cleared(version, &work, "a refusal of split");
         }
         for (vertices, list, refusal, place) in cases.into_iter().chain([(3, &large(MOST)[..], 4, 0)]) {
             if refusal == 0 {
                 check_undo_one_refused(version, vertices, list, LEAST, (11, 0));
-                let answer = SeveralAnswer { vertices, triangles: list.len() as u64 / 3, ..Default::default() };
-                check_levels(version, (vertices, list), MOST_LEVELS, answer, list);
+                check_levels(version, (vertices, list), MOST_LEVELS, no_level(vertices, list), list);
             } else {
                 check_undo_one_refused(version, vertices, list, LEAST, (refusal, place));
                 check_undo_several_refused(version, vertices, list, MOST_LEVELS, (refusal, place));
@@ -126,7 +131,7 @@ fn check_undo_one_refused(version: usize, vertices: u64, list: &[u16], asked: u6
     let (mut out, mut work) = undo_one_buffers(vertices as usize, list);
     let before = out.clone();
     let answer = UNDO_ONES[version](vertices, list, asked, &mut out, &mut work);
-    assert_eq!(answer, OneAnswer { refusal, place, vertices: 0, triangles: 0, role: 0 }, "{what}");
+    assert_eq!(answer, OneAnswer { refusal, place, ..Default::default() }, "{what}");
     assert!(out == before, "{what}: a refusal writes");
     check_cleared(version, &work, &what);
 }
@@ -146,15 +151,26 @@ fn check_levels(version: usize, (vertices, list): (u64, &[u16]), asked: u64, exp
     check_cleared(version, &work, &what);
 }
 
+// What split should answer to a mesh of which this is the splitting.
+fn split_answer((vertices, list): &(usize, Vec<u16>)) -> Answer {
+    let (edges, boundary_edges) = edge_counts(list);
+    Answer { refusal: 0, place: 0, vertices: *vertices as u64, triangles: list.len() as u64 / 3, edges, boundary_edges }
+}
+
+// What undo several should answer to a mesh that it leaves as it is.
+fn no_level(vertices: u64, list: &[u16]) -> SeveralAnswer {
+    let (edges, boundary_edges) = edge_counts(list);
+    SeveralAnswer { vertices, triangles: list.len() as u64 / 3, edges, boundary_edges, ..Default::default() }
+}
+
 fn check_split(mesh: &Mesh) {
-    let (vertices, expected) = splitting(mesh.vertices, &mesh.list);
+    let expected = splitting(mesh.vertices, &mesh.list);
     for version in VERSIONS {
         let what = format!("{} on {}, {}", NAMES[version], mesh.name, mesh.order);
         let (mut out, mut work) = split_buffers(mesh.vertices, &mesh.list);
         let answer = SPLITS[version](mesh.vertices as u64, &mesh.list, &mut out, &mut work);
-        let triangles = expected.len() as u64 / 3;
-        assert_eq!(answer, Answer { refusal: 0, place: 0, vertices: vertices as u64, triangles }, "{what}");
-        assert!(out == expected, "{what}: another output");
+        assert_eq!(answer, split_answer(&expected), "{what}");
+        assert!(out == expected.1, "{what}: another output");
         check_cleared(version, &work, &what);
     }
 }
@@ -191,6 +207,7 @@ fn undo_one_accepted(version: usize, mesh: &Mesh, asked: u64) -> (OneAnswer, One
     let (mut out, mut work) = undo_one_buffers(mesh.vertices, &mesh.list);
     let answer = UNDO_ONES[version](mesh.vertices as u64, &mesh.list, asked, &mut out, &mut work);
     assert_eq!((answer.refusal, answer.place, answer.triangles), (0, 0, mesh.list.len() as u64 / 12), "{what}");
+    assert_eq!((answer.edges, answer.boundary_edges), edge_counts(&out.mesh), "{what}: other edges");
     check_cleared(version, &work, &what);
 
     let (vertices, fours) = splitting(answer.vertices as usize, &out.mesh);
@@ -235,8 +252,7 @@ fn check_undo_several(several: &Several) {
 // What undo several should answer and leave after no level, one, and so on, by undo one in the least role. Each reading is
 // checked, the roles before it are refused, and after the last level all are.
 fn undo_ones(version: usize, mesh: &Mesh, levels: usize) -> Vec<(SeveralAnswer, Vec<u16>)> {
-    let (vertices, triangles) = (mesh.vertices as u64, mesh.list.len() as u64 / 3);
-    let mut answer = SeveralAnswer { vertices, triangles, ..Default::default() };
+    let mut answer = no_level(mesh.vertices as u64, &mesh.list);
     let mut left = mesh.clone();
     let mut undone = vec![(answer, left.list.clone())];
     for level in 0..levels {
@@ -245,6 +261,7 @@ fn undo_ones(version: usize, mesh: &Mesh, levels: usize) -> Vec<(SeveralAnswer, 
             check_undo_one_refused(version, answer.vertices, &left.list, role, (11, 0));
         }
         (answer.vertices, answer.triangles) = (one.vertices, one.triangles);
+        (answer.edges, answer.boundary_edges) = edge_counts(&out.mesh);
         answer.levels += 1;
         answer.roles[level] = one.role as u8;
         left = Mesh { vertices: one.vertices as usize, list: out.mesh, ..left };

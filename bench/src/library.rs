@@ -1,6 +1,7 @@
 // The library's calls on buffers that are vectors, which all versions are given.
 use flatcarol::raw::{self, ONE_WORK, SEVERAL_WORK, SPLIT_WORK};
-pub use flatcarol::raw::{read_frames, read_index, write_frames, write_index, Answer, OneAnswer, SeveralAnswer, TextAnswer};
+pub use flatcarol::raw::{read_frames, read_index, write_frames, write_index};
+pub use flatcarol::raw::{Answer, FramesAnswer, OneAnswer, SeveralAnswer, TextAnswer};
 
 // The work buffers that a caller lends, V + 3F entries each.
 pub type SplitWork = [Vec<u16>; SPLIT_WORK];

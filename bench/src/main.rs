@@ -1,5 +1,7 @@
 // What the library's calls cost beside the same algorithms in plain Rust, beside others with a hash map of edges and beside a copy,
-// all in one run.
+// all in one run; or what they cost beside an earlier archive of the library.
+#[cfg(feature = "before")]
+mod before;
 mod cases;
 mod checks;
 mod clock;
@@ -27,14 +29,22 @@ fn main() {
         return run_once(table, number, which);
     }
     checks::check_all();
+    #[cfg(feature = "before")]
+    if words == ["before"] {
+        before::check_all();
+        return before::print_all();
+    }
     tables::print_all(words.first().map(Path::new));
 }
 
-// Names a case of the greatest size, of the table of versions by its call and of the other, undo several beside undo one, by its
-// levels, and runs one of the first two that it measures once, or none: `count` has a tool count the instructions of each such run.
+// Names a case of the greatest size, of undo several beside undo one by its levels and of the other tables by its call, and runs one
+// of the first two that it measures once, or none: `count` has a tool count the instructions of each such run.
 fn run_once(table: &str, number: &str, which: &str) {
+    let by_call = |case: Case| (case.call.replace(' ', "-"), case);
     let mut cases: Vec<(String, Case)> = match table {
-        "versions" => cases::of_size(MOST).into_iter().map(|case| (case.call.replace(' ', "-"), case)).collect(),
+        "versions" => cases::of_size(MOST).into_iter().map(by_call).collect(),
+        #[cfg(feature = "before")]
+        "before" => before::of_size(MOST).into_iter().map(by_call).collect(),
         _ => cases::several_and_one(MOST).into_iter().map(|(levels, case)| (levels.to_string(), case)).collect(),
     };
     let Some((name, case)) = number.parse().ok().and_then(|number: usize| cases.get_mut(number)) else {

@@ -51,9 +51,9 @@ fn quotient(ones: &[f64], others: &[f64]) -> Option<f64> {
     median(ones.iter().zip(others).map(|(one, other)| one / other).collect())
 }
 
-pub fn measure(mut cases: Vec<Case>) -> Vec<Row> {
+pub fn measure(mut cases: Vec<Case>, rounds: usize) -> Vec<Row> {
     let mut times: Vec<_> = cases.iter().map(|_| [const { Vec::new() }; NAMES.len()]).collect();
-    for _ in 0..ROUNDS {
+    for _ in 0..rounds {
         for (case, times) in cases.iter_mut().zip(&mut times) {
             repeat(case, times);
         }

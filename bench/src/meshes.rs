@@ -231,6 +231,18 @@ pub fn splitting(vertices: usize, list: &[u16]) -> (usize, Vec<u16>) {
     (vertices + numbers.len(), fours)
 }
 
+// How many edges a list has, and how many of them are in one triangle, by another such map.
+pub fn edge_counts(list: &[u16]) -> (u64, u64) {
+    let mut triangles_at = BTreeMap::new();
+    for t in list.chunks_exact(3) {
+        for mut edge in [[t[0], t[1]], [t[1], t[2]], [t[2], t[0]]] {
+            edge.sort();
+            *triangles_at.entry(edge).or_insert(0) += 1;
+        }
+    }
+    (triangles_at.len() as u64, triangles_at.values().filter(|&&triangles| triangles == 1).count() as u64)
+}
+
 // The same mesh with its triangles in random order, its vertices numbered at random, and the corners of each triangle rotated.
 fn shuffled(mesh: &Mesh, random: &mut Random) -> Mesh {
     let mut renamed: Vec<u16> = (0..mesh.vertices as u16).collect();

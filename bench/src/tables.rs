@@ -13,14 +13,14 @@ const MOST_GROWTH: f64 = 2.5;
 const MOST_QUOTIENT: f64 = 1.6;
 const MOST_SHUFFLED: f64 = 1.5;
 
-const LABELS: [&str; 3] = ["mesh", "order", "triangles"];
+pub const LABELS: [&str; 3] = ["mesh", "order", "triangles"];
 
 // A value and the row that has it.
 type Found<'a> = Option<(f64, &'a Row)>;
 
 pub fn print_all(folder: Option<&Path>) {
     println!("Medians of {} repetitions, in nanoseconds per triangle of the input.", ROUNDS * REPETITIONS);
-    let rows = measure(cases::all());
+    let rows = measure(cases::all(cases::of_size), ROUNDS);
     let calls: Vec<&[Row]> = rows.chunk_by(|one, other| one.call == other.call).collect();
     calls.iter().for_each(|call| print_call(call));
     print_speeds(&rows);
@@ -93,7 +93,7 @@ fn cells_of(outcome: Outcome, library: Option<f64>) -> [String; 4] {
 fn print_several_and_one() {
     print_head("undo several beside undo one", [&LABELS[..], &["levels", "several", "one", "several / one"]].concat());
     let (levels, cases): (Vec<usize>, Vec<Case>) = cases::several_and_one(MOST).into_iter().unzip();
-    let rows = measure(cases);
+    let rows = measure(cases, ROUNDS);
     for (levels, row) in levels.iter().zip(&rows) {
         let cells = [levels.to_string(), number(row.time(0)), number(row.time(1)), number(row.ratio(0, 1))];
         print_row(labels(row).into_iter().chain(cells));
@@ -104,7 +104,7 @@ fn print_several_and_one() {
 
 fn print_shuffled_and_in_order() {
     print_head("shuffled beside in order", ["call", "mesh", "triangles", "shuffled", "in order", "shuffled / in order"]);
-    let rows = measure(cases::shuffled_and_in_order(MOST));
+    let rows = measure(cases::shuffled_and_in_order(MOST), ROUNDS);
     for row in &rows {
         let cells = [row.time(0), row.time(1), row.ratio(0, 1)].map(number);
         print_row([row.call.into(), row.mesh.into(), thousands(row.triangles)].into_iter().chain(cells));
@@ -149,7 +149,7 @@ fn found(found: Found) -> String {
     found.map_or_else(String::new, |(value, row)| format!("{} ({})", number(Some(value)), labels(row).join(", ")))
 }
 
-fn labels(row: &Row) -> [String; 3] {
+pub fn labels(row: &Row) -> [String; 3] {
     [row.mesh.into(), row.order.into(), thousands(row.triangles)]
 }
 
@@ -161,7 +161,7 @@ fn thousands(number: usize) -> String {
 }
 
 // Nothing where nothing was measured.
-fn number(value: Option<f64>) -> String {
+pub fn number(value: Option<f64>) -> String {
     match value {
         None => String::new(),
         Some(value) if value < 10.0 => format!("{value:.2}"),
@@ -169,7 +169,7 @@ fn number(value: Option<f64>) -> String {
     }
 }
 
-fn print_head(title: &str, cells: impl IntoIterator<Item = impl ToString>) {
+pub fn print_head(title: &str, cells: impl IntoIterator<Item = impl ToString>) {
     let cells: Vec<String> = cells.into_iter().map(|cell| cell.to_string()).collect();
     println!();
     println!("## {}{}", title[..1].to_uppercase(), &title[1..]);
@@ -178,6 +178,6 @@ fn print_head(title: &str, cells: impl IntoIterator<Item = impl ToString>) {
     println!("|{}", "---|".repeat(cells.len()));
 }
 
-fn print_row(cells: impl IntoIterator<Item = String>) {
+pub fn print_row(cells: impl IntoIterator<Item = String>) {
     println!("| {} |", cells.into_iter().collect::<Vec<_>>().join(" | "));
 }

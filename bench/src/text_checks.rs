@@ -1,6 +1,6 @@
 // The checks of the calls that read a mesh from a text and write it as one: frames and index texts.
 use crate::cases::{FRAME_READS, FRAME_WRITES, INDEX_READS, INDEX_WRITES, LENT, NAMES};
-use crate::library::{Answer, TextAnswer};
+use crate::library::{FramesAnswer, TextAnswer};
 use crate::meshes::{frames, index_text, index_texts, Mesh, MOST};
 
 // No hash map of edges has a part in them.
@@ -45,7 +45,7 @@ fn check_index(version: usize, mesh: &Mesh) {
     }
 }
 
-fn check_read_back(version: usize, mesh: &Mesh, read: impl FnOnce(&mut [u16]) -> Answer) {
+fn check_read_back(version: usize, mesh: &Mesh, read: impl FnOnce(&mut [u16]) -> FramesAnswer) {
     let mut out = vec![LENT; mesh.list.len()];
     assert_eq!(read(&mut out), accepted(mesh.vertices as u64, &mesh.list), "{}", NAMES[version]);
     assert!(out == mesh.list, "{} reads another mesh", NAMES[version]);
@@ -122,7 +122,7 @@ fn check_read_index_refusals() {
 }
 
 // What reading answers, and that a refusal writes nothing.
-fn check_judged(version: usize, text: &str, judged: (u64, u64), read: impl FnOnce(&mut [u16]) -> Answer) {
+fn check_judged(version: usize, text: &str, judged: (u64, u64), read: impl FnOnce(&mut [u16]) -> FramesAnswer) {
     let what = format!("{} reads {:?} of {} bytes", NAMES[version], text.get(..30).unwrap_or(text), text.len());
     let mut out = [LENT; ROOM];
     let answer = read(&mut out);
@@ -176,7 +176,7 @@ fn check_write_refusals() {
             let what = format!("{} writes {vertices} vertices, {} entries", NAMES[version], list.len());
             let (framed, text) = match refusal {
                 0 => ((accepted(vertices, list), frames), (text_accepted(vertices, list, bytes), bytes)),
-                _ => ((Answer { refusal, ..Default::default() }, 0), (TextAnswer { refusal, ..Default::default() }, 0)),
+                _ => ((FramesAnswer { refusal, ..Default::default() }, 0), (TextAnswer { refusal, ..Default::default() }, 0)),
             };
             assert_eq!(write(frames, |out| FRAME_WRITES[version](vertices, list, out)), framed, "{what} as frames");
             assert_eq!(write(bytes, |out| INDEX_WRITES[version](vertices, list, out)), text, "{what} as an index text");
@@ -193,8 +193,8 @@ fn write<A>(room: usize, write: impl FnOnce(&mut [u8]) -> A) -> (A, usize) {
     (answer, out.iter().filter(|&&byte| byte != 0).count())
 }
 
-fn accepted(vertices: u64, list: &[u16]) -> Answer {
-    Answer { refusal: 0, place: 0, vertices, triangles: list.len() as u64 / 3 }
+fn accepted(vertices: u64, list: &[u16]) -> FramesAnswer {
+    FramesAnswer { refusal: 0, place: 0, vertices, triangles: list.len() as u64 / 3 }
 }
 
 fn text_accepted(vertices: u64, list: &[u16], bytes: usize) -> TextAnswer {

@@ -2,7 +2,7 @@
 // entry of every lent buffer, and the input.
 use std::fmt::Debug;
 
-use flatcarol::raw::{Answer, OneAnswer, OneOutputs, SeveralAnswer, TextAnswer, SEVERAL_WORK};
+use flatcarol::raw::{Answer, FramesAnswer, OneAnswer, OneOutputs, SeveralAnswer, TextAnswer, SEVERAL_WORK};
 use reference::{OneRoom, Search};
 
 use crate::calls::Calls;
@@ -104,7 +104,11 @@ impl<'a> Checker<'a> {
         self.lend(mesh, room);
         let Checker { calls, list, outputs: [out, ..], work, .. } = self;
         let found = calls.split(mesh.vertices, list.lent(), out.lent_mut(), slices(work));
-        self.cover.answer(Call::Split, expected.refusal, expected.place);
+        let Answer { refusal, place, triangles, edges, boundary_edges, .. } = answer_of(expected);
+        self.cover.answer(Call::Split, refusal, place);
+        if refusal == 0 {
+            self.cover.edges(Call::Split, triangles, edges, boundary_edges);
+        }
         self.judge(found, (answer_of(expected), vec![entries]), mesh, room)
     }
 
@@ -115,9 +119,10 @@ impl<'a> Checker<'a> {
         let [coarse, vertex_map, triangle_map] = [coarse, vertex_map, triangle_map].map(Buffer::lent_mut);
         let out = OneOutputs { mesh: coarse, vertex_map, triangle_map };
         let found = calls.undo_one(mesh.vertices, list.lent(), asked, out, slices(work));
-        let OneAnswer { refusal, place, role, .. } = expected.0;
+        let OneAnswer { refusal, place, triangles, edges, boundary_edges, role, .. } = expected.0;
         self.cover.answer(Call::UndoOne, refusal, place);
         if refusal == 0 {
+            self.cover.edges(Call::UndoOne, triangles, edges, boundary_edges);
             self.cover.reading(asked, role);
         }
         self.judge(found, expected, mesh, room)
@@ -128,9 +133,10 @@ impl<'a> Checker<'a> {
         self.lend(mesh, room);
         let Checker { calls, list, outputs: [out, ..], work, .. } = self;
         let found = calls.undo_several(mesh.vertices, list.lent(), asked, out.lent_mut(), slices(work));
-        let SeveralAnswer { refusal, place, levels, roles, .. } = expected.0;
+        let SeveralAnswer { refusal, place, triangles, edges, boundary_edges, levels, roles, .. } = expected.0;
         self.cover.answer(Call::UndoSeveral, refusal, place);
         if refusal == 0 {
+            self.cover.edges(Call::UndoSeveral, triangles, edges, boundary_edges);
             self.cover.levels(levels, &roles);
         }
         self.judge(found, expected, mesh, room)
@@ -151,13 +157,13 @@ impl<'a> Checker<'a> {
         let (expected, bytes) = reference::write_frames(mesh.vertices, &mesh.list, length);
         self.cover.answer(Call::WriteFrames, expected.refusal, expected.place);
         let call = |calls: &dyn Calls, list: &[u16], out: &mut [u8]| calls.write_frames(mesh.vertices, list, out);
-        self.write(Call::WriteFrames, mesh, length, (answer_of(expected), bytes), call)
+        self.write(Call::WriteFrames, mesh, length, (frames_answer_of(expected), bytes), call)
     }
 
     pub fn write_index(&mut self, mesh: &Mesh, length: usize) -> Checked {
         let (expected, text) = reference::write_index(mesh.vertices, &mesh.list, length);
         self.cover.answer(Call::WriteIndex, expected.refusal, expected.place);
-        let Answer { refusal, place, vertices, triangles } = answer_of(expected);
+        let FramesAnswer { refusal, place, vertices, triangles } = frames_answer_of(expected);
         let expected = TextAnswer { refusal, place, vertices, triangles, bytes: text.len() as u64 };
         let call = |calls: &dyn Calls, list: &[u16], out: &mut [u8]| calls.write_index(mesh.vertices, list, out);
         self.write(Call::WriteIndex, mesh, length, (expected, text), call)
@@ -169,8 +175,8 @@ impl<'a> Checker<'a> {
         name: Call,
         bytes: &[u8],
         length: usize,
-        (expected, entries): (reference::Answer, Vec<u16>),
-        call: impl FnOnce(&dyn Calls, &[u8], &mut [u16]) -> Answer,
+        (expected, entries): (reference::FramesAnswer, Vec<u16>),
+        call: impl FnOnce(&dyn Calls, &[u8], &mut [u16]) -> FramesAnswer,
     ) -> Checked {
         let Checker { calls, random, bytes: input, outputs: [out, ..], contents, .. } = self;
         let before = &contents.noise[random.below(BEGINNINGS)..][..length];
@@ -178,7 +184,7 @@ impl<'a> Checker<'a> {
         out.lend(before, side(random));
         let found = call(*calls, input.lent(), out.lent_mut());
         self.cover.answer(name, expected.refusal, expected.place);
-        same_answer(found, answer_of(expected))
+        same_answer(found, frames_answer_of(expected))
             .and_then(|()| as_written("the output", out, &entries, before))
             .and_then(|()| as_it_was("the input", input, bytes))
             .map_err(|what| format!("{}, {length} entries lent, of {}:\n{what}", name.name(), shown_bytes(bytes)))
@@ -260,22 +266,28 @@ fn slices<const N: usize>(buffers: &mut [Buffer<u16>; WORK]) -> [&mut [u16]; N] 
 }
 
 fn answer_of(answer: reference::Answer) -> Answer {
-    let reference::Answer { refusal, place, vertices, triangles } = answer;
-    Answer { refusal, place, vertices, triangles }
+    let reference::Answer { refusal, place, vertices, triangles, edges, boundary_edges } = answer;
+    Answer { refusal, place, vertices, triangles, edges, boundary_edges }
+}
+
+fn frames_answer_of(answer: reference::FramesAnswer) -> FramesAnswer {
+    let reference::FramesAnswer { refusal, place, vertices, triangles } = answer;
+    FramesAnswer { refusal, place, vertices, triangles }
 }
 
 fn expected_one(mesh: &Mesh, asked: u64, room: &Room, search: Search) -> Outcome<OneAnswer> {
     let one_room = OneRoom { mesh: room.outputs[0], vertex_map: room.outputs[1], triangle_map: room.outputs[2] };
     let one = reference::undo_one(mesh.vertices, &mesh.list, asked, one_room, &room.work, search);
-    let Answer { refusal, place, vertices, triangles } = answer_of(one.answer);
-    (OneAnswer { refusal, place, vertices, triangles, role: one.role }, vec![one.mesh, one.vertex_map, one.triangle_map])
+    let Answer { refusal, place, vertices, triangles, edges, boundary_edges } = answer_of(one.answer);
+    let answer = OneAnswer { refusal, place, vertices, triangles, edges, boundary_edges, role: one.role };
+    (answer, vec![one.mesh, one.vertex_map, one.triangle_map])
 }
 
 fn expected_several(mesh: &Mesh, asked: u64, room: &Room, search: Search) -> Outcome<SeveralAnswer> {
     let several = reference::undo_several(mesh.vertices, &mesh.list, asked, room.outputs[0], &room.work, search);
-    let Answer { refusal, place, vertices, triangles } = answer_of(several.answer);
-    let answer = SeveralAnswer { refusal, place, vertices, triangles, levels: several.levels, roles: several.roles };
-    (answer, vec![several.mesh])
+    let Answer { refusal, place, vertices, triangles, edges, boundary_edges } = answer_of(several.answer);
+    let reference::Several { levels, roles, mesh, .. } = several;
+    (SeveralAnswer { refusal, place, vertices, triangles, edges, boundary_edges, levels, roles }, vec![mesh])
 }
 
 fn same_answer<A: PartialEq + Debug>(found: A, expected: A) -> Checked {

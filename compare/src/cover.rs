@@ -25,6 +25,12 @@ const CALLS: [Call; 8] = [
     Call::Program,
 ];
 
+// Those that count edges, which come first.
+const COUNTING: [Call; 3] = [Call::Split, Call::UndoOne, Call::UndoSeveral];
+
+// What a resulting mesh may have. Some ways to miscount show in one of these alone.
+const SORTS: [&str; 4] = ["no boundary edge", "boundary edges", "singular edges", "singular edges and no boundary edge"];
+
 // The refusals' numbers, and 0 for acceptance.
 const NUMBERS: usize = 15;
 
@@ -64,6 +70,8 @@ pub struct Cover {
     answers: [[u64; NUMBERS]; CALLS.len()],
     // Of these, the refusals whose place is not 0.
     later_places: [[u64; NUMBERS]; CALLS.len()],
+    // Results of the calls that count edges, by what they have.
+    edges: [[u64; SORTS.len()]; COUNTING.len()],
     // Readings that undo one gave, by their role.
     roles_asked: [u64; 4],
     least_roles: [u64; 4],
@@ -86,6 +94,14 @@ impl Cover {
         self.later_places[call as usize][refusal as usize] += (place > 0) as u64;
     }
 
+    // What one of the calls that count edges is to count of its result. Without singular edges the sides of the triangles are two for
+    // each edge, less one for each boundary edge; with them they are more.
+    pub fn edges(&mut self, call: Call, triangles: u64, edges: u64, boundary_edges: u64) {
+        let (is_closed, is_singular) = (boundary_edges == 0, 3 * triangles + boundary_edges > 2 * edges);
+        let sorts = [is_closed, !is_closed, is_singular, is_singular && is_closed];
+        add_each(&mut self.edges[call as usize], &sorts.map(u64::from));
+    }
+
     pub fn reading(&mut self, asked: u64, role: u64) {
         let roles = if asked == role { &mut self.roles_asked } else { &mut self.least_roles };
         roles[role as usize] += 1;
@@ -106,6 +122,9 @@ impl Cover {
         for (call, _) in CALLS.iter().enumerate() {
             add_each(&mut self.answers[call], &other.answers[call]);
             add_each(&mut self.later_places[call], &other.later_places[call]);
+        }
+        for (counts, others) in self.edges.iter_mut().zip(&other.edges) {
+            add_each(counts, others);
         }
         add_each(&mut self.roles_asked, &other.roles_asked);
         add_each(&mut self.least_roles, &other.least_roles);
@@ -131,6 +150,11 @@ impl Cover {
                 if PLACED.contains(&number) {
                     expect(self.later_places[call as usize][number], format!("{}: {number} at a place after 0", call.name()));
                 }
+            }
+        }
+        for call in COUNTING {
+            for (sort, count) in SORTS.iter().zip(self.edges[call as usize]) {
+                expect(count, format!("{}: a result with {sort}", call.name()));
             }
         }
         for role in 0..4 {
@@ -167,6 +191,9 @@ impl Display for Cover {
             let refused: Vec<String> =
                 (1..NUMBERS).filter(|&number| counts[number] > 0).map(|number| format!("{number}: {}", counts[number])).collect();
             writeln!(f, "  {:<13} {:>9} accepted; refused {}", call.name(), counts[0], refused.join(", "))?;
+        }
+        for call in COUNTING {
+            writeln!(f, "results of {} with {}: {:?}", call.name(), SORTS.join(", "), self.edges[call as usize])?;
         }
         writeln!(f, "readings in roles 0 to 3: asked for {:?}, the least {:?}", self.roles_asked, self.least_roles)?;
         writeln!(f, "undone 0 to 7 levels: {:?}, in roles 0 to 3: {:?}", self.levels, self.roles_of_levels)?;

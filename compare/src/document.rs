@@ -19,13 +19,15 @@ pub static STARRED: [Named; 8] = [
 ];
 
 // The others, and a few of their like.
-static OTHERS: [Named; 9] = [
+static OTHERS: [Named; 11] = [
     Named { name: "a tetrahedron", mesh: meshes::tetrahedron },
     Named { name: "an octahedron", mesh: meshes::octahedron },
     Named { name: "no triangle", mesh: Mesh::default },
     Named { name: "one triangle, split", mesh: || splitting(&meshes::one_triangle()) },
     Named { name: "a tetrahedron, split", mesh: || splitting(&meshes::tetrahedron()) },
     Named { name: "three triangles on an edge, split", mesh: || splitting(&meshes::book(3)) },
+    Named { name: "three cones on one rim", mesh: three_cones },
+    Named { name: "three cones on one rim, split", mesh: || splitting(&three_cones()) },
     Named { name: "a regular 6 by 6 torus", mesh: torus },
     Named { name: "seven splits of one triangle", mesh: || split_times(&meshes::one_triangle(), 7) },
     Named { name: "16,385 triangles", mesh: || meshes::strip(16_385) },
@@ -33,6 +35,10 @@ static OTHERS: [Named; 9] = [
 
 pub fn torus() -> Mesh {
     grid(6, 6, Closing::Torus)
+}
+
+pub fn three_cones() -> Mesh {
+    meshes::cones(3, 3)
 }
 
 pub const MESHES: usize = STARRED.len() + OTHERS.len();

@@ -88,6 +88,12 @@ pub fn closed_fan(triangles: usize) -> Mesh {
     Mesh::of_triangles((0..triangles).map(|number| [0, number + 1, (number + 1) % triangles + 1]))
 }
 
+// A cone over the same rim of at least three edges for each apex. With three and more the edges of the rim are singular, and there is
+// no boundary edge.
+pub fn cones(rim: usize, apexes: usize) -> Mesh {
+    Mesh::of_triangles((0..apexes).flat_map(|apex| (0..rim).map(move |side| [side, (side + 1) % rim, rim + apex])))
+}
+
 // A strip of at least five triangles whose ends are joined: a Moebius band if they are odd in number, and else an annulus.
 pub fn band(triangles: usize) -> Mesh {
     Mesh::of_triangles((0..triangles).map(|number| [number, (number + 1) % triangles, (number + 2) % triangles]))

@@ -2,7 +2,7 @@
 // worked out by hand come first.
 use std::fmt::Write;
 
-use crate::document::{torus, Named, STARRED};
+use crate::document::{three_cones, torus, Named, STARRED};
 use crate::index;
 use crate::kinds::KINDS;
 use crate::meshes::{self, Mesh};
@@ -91,6 +91,7 @@ pub fn text() -> String {
     unstarred(&mut text);
     starred(&mut text);
     refusals(&mut text);
+    edges(&mut text);
     generated(&mut text);
     index_by_bytes(&mut text);
     index_by_numbers(&mut text);
@@ -160,6 +161,26 @@ fn refusals(text: &mut Text) {
         text.undo_one([0, 4, 5]);
         text.undo_several([0, 7, 8]);
         text.split(1);
+    }
+}
+
+// Edges with one triangle, two and three, of meshes as they are, split, and undone by several levels; and a refusal after each.
+fn edges(text: &mut Text) {
+    text.comment("---- boundary, regular and singular edges");
+    let shapes = [
+        ("three cones on one rim: singular edges, and no boundary edge", three_cones()),
+        ("three triangles on an edge: a singular edge, and boundary edges", meshes::book(3)),
+        ("a strip: regular and boundary edges", meshes::strip(5)),
+    ];
+    for (name, mesh) in &shapes {
+        text.comment(name);
+        text.mesh(mesh);
+        text.undo_several([0, 7]);
+        text.undo_one([4]);
+        text.split(1);
+        text.undo_one([0, 1, 4]);
+        text.split(1);
+        text.undo_several([0, 1, 2, 7, 8]);
     }
 }
 

@@ -2,7 +2,8 @@
 // fault it must pass.
 use std::collections::{BTreeMap, BTreeSet, HashMap, HashSet};
 
-use flatcarol::raw::{Answer, OneAnswer, OneOutputs, SeveralAnswer, TextAnswer, Work, ONE_WORK, SEVERAL_WORK, SPLIT_WORK};
+use flatcarol::raw::{Answer, FramesAnswer, OneAnswer, OneOutputs, SeveralAnswer, TextAnswer};
+use flatcarol::raw::{Work, ONE_WORK, SEVERAL_WORK, SPLIT_WORK};
 
 use crate::calls::{Calls, Library};
 use crate::meshes::{splitting, Mesh};
@@ -33,6 +34,13 @@ faults! {
     PlaceOffByOne,
     RolesBehindTheLast,
     CornersRotated,
+    // In the counts of edges.
+    SingularEdgesAreBoundary,
+    EdgesOfEachTriangle,
+    SplitBoundaryNotDoubled,
+    EdgesOfTheInput,
+    BoundaryHalvedOnce,
+    EdgesInARefusal,
     // In judging.
     WindingCounts,
     JudgesOverRegularEdges,
@@ -183,6 +191,15 @@ impl Wrong {
         Some(undone)
     }
 
+    // How many edges a mesh has, and how many of them one triangle has.
+    fn edge_counts(&self, mesh: &Mesh) -> (u64, u64) {
+        let edges = edges_of(&triangles_of(&mesh.list));
+        let is_boundary = |on: &&Vec<usize>| on.len() == 1 || (on.len() > 2 && self.has(Fault::SingularEdgesAreBoundary));
+        let boundary_edges = edges.values().filter(is_boundary).count();
+        let all = if self.has(Fault::EdgesOfEachTriangle) { mesh.list.len() } else { edges.len() };
+        (all as u64, boundary_edges as u64)
+    }
+
     // From the first centre, over tile edges: each centre's three corner triangles with their kept vertices, in the order in which
     // the coarse triangle has them.
     fn tiles(&self, triangles: &[[u16; 3]], role: u64) -> Option<BTreeMap<usize, [(usize, u16); 3]>> {
@@ -290,9 +307,15 @@ impl Calls for Wrong {
         if let Some((refusal, place)) = refusal {
             return Answer { refusal, place, ..Answer::default() };
         }
-        let fine = splitting(&Mesh::new(vertices, list));
+        let coarse = Mesh::new(vertices, list);
+        let fine = splitting(&coarse);
         self.write(out, &fine.list);
-        Answer { refusal: 0, place: 0, vertices: fine.vertices, triangles: fine.triangles() as u64 }
+        let (edges, mut boundary_edges) = self.edge_counts(&fine);
+        if self.has(Fault::SplitBoundaryNotDoubled) {
+            boundary_edges = self.edge_counts(&coarse).1;
+        }
+        let (vertices, triangles) = (fine.vertices, fine.triangles() as u64);
+        Answer { refusal: 0, place: 0, vertices, triangles, edges, boundary_edges }
     }
 
     fn undo_one(&self, vertices: u64, list: &[u16], asked: u64, out: OneOutputs, work: Work<ONE_WORK>) -> OneAnswer {
@@ -312,19 +335,22 @@ impl Calls for Wrong {
             }
         };
         let Some(Undone { coarse, vertex_map, triangle_map, role, .. }) = self.undone(&mesh, asked, early) else {
-            return OneAnswer { refusal: 11, ..OneAnswer::default() };
+            let (edges, boundary_edges) = if self.has(Fault::EdgesInARefusal) { self.edge_counts(&mesh) } else { (0, 0) };
+            return OneAnswer { refusal: 11, edges, boundary_edges, ..OneAnswer::default() };
         };
         self.write(out.mesh, &coarse.list);
         self.write(out.vertex_map, &vertex_map);
         self.write(out.triangle_map, &triangle_map);
-        OneAnswer { refusal: 0, place: 0, vertices: coarse.vertices, triangles: coarse.triangles() as u64, role }
+        let (edges, boundary_edges) = self.edge_counts(if self.has(Fault::EdgesOfTheInput) { &mesh } else { &coarse });
+        let (vertices, triangles) = (coarse.vertices, coarse.triangles() as u64);
+        OneAnswer { refusal: 0, place: 0, vertices, triangles, edges, boundary_edges, role }
     }
 
     fn undo_several(&self, vertices: u64, list: &[u16], asked: u64, out: &mut [u16], work: Work<SEVERAL_WORK>) -> SeveralAnswer {
         let mut lent = self.work_room(vertices, list, &work);
         lent.push((out.len(), list.len() as u64 / 3 * 3));
         let asked = self.asked(asked);
-        let mut mesh = Mesh::new(vertices, list);
+        let input = Mesh::new(vertices, list);
         let refusal = if asked > 7 { Some((1, 0)) } else { self.refusal(vertices, list, 16_384, &lent) };
         self.touch(list, work);
         if let Some((refusal, place)) = refusal {
@@ -332,6 +358,7 @@ impl Calls for Wrong {
         }
         let most = if self.has(Fault::StopsOneLevelEarly) { asked.min(6) } else { asked };
         let mut answer = SeveralAnswer::default();
+        let mut mesh = input.clone();
         while answer.levels < most {
             let Some(undone) = self.undone(&mesh, 4, |_| ()) else { break };
             answer.roles[answer.levels as usize] = undone.role as u8;
@@ -342,11 +369,15 @@ impl Calls for Wrong {
             answer.roles[answer.levels as usize] = 4;
         }
         self.write(out, &mesh.list);
+        (answer.edges, answer.boundary_edges) = self.edge_counts(if self.has(Fault::EdgesOfTheInput) { &input } else { &mesh });
+        if self.has(Fault::BoundaryHalvedOnce) && answer.levels > 0 {
+            answer.boundary_edges = self.edge_counts(&input).1 / 2;
+        }
         SeveralAnswer { vertices: mesh.vertices, triangles: mesh.triangles() as u64, ..answer }
     }
 
     // The library's own, but for their faults.
-    fn read_frames(&self, bytes: &[u8], out: &mut [u16]) -> Answer {
+    fn read_frames(&self, bytes: &[u8], out: &mut [u16]) -> FramesAnswer {
         match self.0 {
             Fault::LowerCaseRead => Library.read_frames(&bytes.to_ascii_uppercase(), out),
             Fault::LastLineWithoutEnd if bytes.last().is_some_and(|&last| last != b'\n') => {
@@ -356,16 +387,16 @@ impl Calls for Wrong {
         }
     }
 
-    fn write_frames(&self, vertices: u64, list: &[u16], out: &mut [u8]) -> Answer {
+    fn write_frames(&self, vertices: u64, list: &[u16], out: &mut [u8]) -> FramesAnswer {
         Library.write_frames(vertices, list, out)
     }
 
-    fn read_index(&self, vertices: u64, text: &[u8], out: &mut [u16]) -> Answer {
+    fn read_index(&self, vertices: u64, text: &[u8], out: &mut [u16]) -> FramesAnswer {
         match self.0 {
             Fault::NumbersWrap => Library.read_index(vertices, &wrapped(text), out),
             Fault::CommentsEndAtLineFeedOnly => Library.read_index(vertices, &without_returns_in_comments(text), out),
             Fault::MissingBeforeTrailingBlanks => Library.read_index(vertices, text.trim_ascii_end(), out),
-            Fault::SizeBeforeText if vertices > 32_767 => Answer { refusal: 4, ..Answer::default() },
+            Fault::SizeBeforeText if vertices > 32_767 => FramesAnswer { refusal: 4, ..FramesAnswer::default() },
             _ => Library.read_index(vertices, text, out),
         }
     }

@@ -32,6 +32,13 @@ static void print_numbers(const char *name, const uint16_t *numbers, uint64_t co
     printf("\n");
 }
 
+/* What split and the undos count of the mesh that they give. */
+static void print_counts(uint64_t vertices, uint64_t triangles, uint64_t edges, uint64_t boundary_edges)
+{
+    printf("  %" PRIu64 " vertices, %" PRIu64 " triangles, ", vertices, triangles);
+    printf("%" PRIu64 " edges, %" PRIu64 " of them boundary edges\n", edges, boundary_edges);
+}
+
 static void print_refusal(uint64_t refusal, uint64_t place)
 {
     printf("  refused %" PRIu64 " at %" PRIu64 ": %s\n", refusal, place, flatcarol_refusal_text(refusal));
@@ -60,7 +67,7 @@ static void one_split_and_back(void)
     printf("one triangle, split\n");
     const flatcarol_answer split = flatcarol_split_in(3, triangle, 3, fine, 12, work, flatcarol_split_work(3, 1));
     must_be_accepted(split.refusal, split.place);
-    printf("  %" PRIu64 " vertices, %" PRIu64 " triangles\n", split.vertices, split.triangles);
+    print_counts(split.vertices, split.triangles, split.edges, split.boundary_edges);
     print_triangles(fine, split.triangles);
 
     /* In role 0 triangle 0 is a centre, the middle one of four, as it is in every splitting that comes out of
@@ -73,7 +80,7 @@ static void one_split_and_back(void)
     const flatcarol_one_answer undone = flatcarol_undo_one_in(
         split.vertices, fine, 12, 0, coarse, 3, vertex_map, 6, triangle_map, 4, work, flatcarol_undo_one_work(6, 4));
     must_be_accepted(undone.refusal, undone.place);
-    printf("  %" PRIu64 " vertices, %" PRIu64 " triangles\n", undone.vertices, undone.triangles);
+    print_counts(undone.vertices, undone.triangles, undone.edges, undone.boundary_edges);
     print_triangles(coarse, undone.triangles);
     print_numbers("vertex map", vertex_map, split.vertices);
     print_numbers("triangle map", triangle_map, split.triangles);
@@ -108,7 +115,7 @@ static void seven_splits_and_back(void)
         must_be_accepted(split.refusal, split.place);
         vertices = split.vertices;
         triangles = split.triangles;
-        printf("  %" PRIu64 " vertices, %" PRIu64 " triangles\n", vertices, triangles);
+        print_counts(vertices, triangles, split.edges, split.boundary_edges);
         /* The result becomes the next call's list: buffers change places, as they must not overlap. */
         uint16_t *const result = other;
         other = mesh;
@@ -123,12 +130,38 @@ static void seven_splits_and_back(void)
     for (uint64_t level = 0; level < undone.levels; level++) {
         printf(" %d", undone.roles[level]);
     }
-    printf("\n  %" PRIu64 " vertices, %" PRIu64 " triangles\n", undone.vertices, undone.triangles);
+    printf("\n");
+    print_counts(undone.vertices, undone.triangles, undone.edges, undone.boundary_edges);
     print_triangles(other, undone.triangles);
 
     free(work);
     free(other);
     free(mesh);
+}
+
+/* ---- holes
+
+   A boundary edge has one triangle only: there the mesh ends, at its rim or at a hole. A mesh without any has neither.
+   Undo several, asked for 0 levels, gives a mesh back as it is, with its counts. */
+
+static void look_for_a_hole(const uint16_t *list, uint64_t triangles)
+{
+    uint16_t out[12];
+    uint16_t work[10 * 16];
+    const flatcarol_several_answer counted = flatcarol_undo_several_in(
+        4, list, 3 * triangles, 0, out, 12, work, flatcarol_undo_several_work(4, triangles));
+    must_be_accepted(counted.refusal, counted.place);
+    print_counts(counted.vertices, counted.triangles, counted.edges, counted.boundary_edges);
+    printf("  %s\n", counted.boundary_edges == 0 ? "no boundary edge: no hole" : "a hole");
+}
+
+static void with_and_without_a_hole(void)
+{
+    const uint16_t tetrahedron[12] = {0, 1, 2, 0, 3, 1, 1, 3, 2, 2, 3, 0};
+    printf("a tetrahedron\n");
+    look_for_a_hole(tetrahedron, 4);
+    printf("without its last triangle\n");
+    look_for_a_hole(tetrahedron, 3);
 }
 
 /* ---- frames
@@ -147,7 +180,7 @@ static void frames_read_and_written(void)
 
     uint16_t fine[12];
     printf("frames, read\n");
-    const flatcarol_answer read = flatcarol_read_frames(bytes, sizeof bytes, fine, 12);
+    const flatcarol_frames_answer read = flatcarol_read_frames(bytes, sizeof bytes, fine, 12);
     must_be_accepted(read.refusal, read.place);
     printf("  %" PRIu64 " vertices, %" PRIu64 " triangles\n", read.vertices, read.triangles);
     print_triangles(fine, read.triangles);
@@ -167,7 +200,7 @@ static void frames_read_and_written(void)
 
     uint8_t out[11 + 15];
     printf("and written\n");
-    const flatcarol_answer written = flatcarol_write_frames(undone.vertices, coarse, 3, out, sizeof out);
+    const flatcarol_frames_answer written = flatcarol_write_frames(undone.vertices, coarse, 3, out, sizeof out);
     must_be_accepted(written.refusal, written.place);
     /* Each line ends in a line feed; there is no zero byte behind the last. */
     fwrite(out, 1, sizeof out, stdout);
@@ -175,7 +208,7 @@ static void frames_read_and_written(void)
     /* The third line, which is line 2 as lines are counted from 0, gets a wrong kind. */
     bytes[11 + 15 + 1] = '7';
     printf("and with a wrong third line\n");
-    const flatcarol_answer wrong = flatcarol_read_frames(bytes, sizeof bytes, fine, 12);
+    const flatcarol_frames_answer wrong = flatcarol_read_frames(bytes, sizeof bytes, fine, 12);
     print_refusal(wrong.refusal, wrong.place);
 }
 
@@ -184,7 +217,7 @@ static void frames_read_and_written(void)
    A square as an exporter writes it, two triangles with commas and a comment: read, split and written. The text does
    not tell the number of vertices, 4. */
 
-static flatcarol_answer read_square(const char *text, uint16_t *out, size_t out_len)
+static flatcarol_frames_answer read_square(const char *text, uint16_t *out, size_t out_len)
 {
     return flatcarol_read_index(4, (const uint8_t *)text, strlen(text), out, out_len);
 }
@@ -193,7 +226,7 @@ static void index_text_read_and_written(void)
 {
     uint16_t square[6];
     printf("an index text, read\n");
-    const flatcarol_answer read = read_square("0, 1, 2, -1, # the lower half\n0, 2, 3", square, 6);
+    const flatcarol_frames_answer read = read_square("0, 1, 2, -1, # the lower half\n0, 2, 3", square, 6);
     must_be_accepted(read.refusal, read.place);
     printf("  %" PRIu64 " vertices, %" PRIu64 " triangles\n", read.vertices, read.triangles);
     print_triangles(square, read.triangles);
@@ -211,7 +244,7 @@ static void index_text_read_and_written(void)
     fwrite(out, 1, written.bytes, stdout);
 
     printf("\nand with a corner less\n");
-    const flatcarol_answer wrong = read_square("0, 1, 2, -1, 0, 2, -1", square, 6);
+    const flatcarol_frames_answer wrong = read_square("0, 1, 2, -1, 0, 2, -1", square, 6);
     print_refusal(wrong.refusal, wrong.place);
 }
 
@@ -243,6 +276,7 @@ int main(void)
 {
     one_split_and_back();
     seven_splits_and_back();
+    with_and_without_a_hole();
     frames_read_and_written();
     index_text_read_and_written();
     refusals();

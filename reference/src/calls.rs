@@ -6,24 +6,60 @@ use crate::splitting::splitting;
 use crate::{exhaustive, spreading};
 
 /// "An answer holds the refusal number (0 when accepted), the place, the resulting V and F (for frames, those read or written), and
-/// for undo the role or the levels and roles." The last ones are beside it in [`One`] and [`Several`].
+/// for undo the role or the levels and roles." The last ones are beside it in [`One`] and [`Several`], and frames have a
+/// [`FramesAnswer`].
+///
+/// Document 02, #102: "The answer of undo and of split shall also carry the resulting mesh's edge count and boundary edge count, and
+/// zeros in a refusal."
 #[derive(Clone, Copy, Debug, Default, PartialEq, Eq)]
 pub struct Answer {
     pub refusal: u64,
     pub place: u64,
     pub vertices: u64,
     pub triangles: u64,
+    pub edges: u64,
+    pub boundary_edges: u64,
 }
 
 impl Answer {
-    /// "Other numbers in a refusal are 0."
+    /// "Other numbers in a refusal are 0"; "zeros in a refusal".
     pub(crate) fn refused(refusal: u64, place: u64) -> Answer {
-        Answer { refusal, place, vertices: 0, triangles: 0 }
+        Answer { refusal, place, vertices: 0, triangles: 0, edges: 0, boundary_edges: 0 }
+    }
+
+    /// "the refusal number (0 when accepted)"; "'Place' is 0 unless named"; and the four numbers of the resulting mesh.
+    pub(crate) fn accepted(resulting: &Mesh) -> Answer {
+        let (edges, boundary_edges) = resulting.edge_counts();
+        Answer {
+            refusal: 0,
+            place: 0,
+            vertices: resulting.vertices,
+            triangles: resulting.triangles.len() as u64,
+            edges,
+            boundary_edges,
+        }
+    }
+}
+
+/// The answer of reading and writing, whether frames or index texts: "the resulting V and F (for frames, those read or written)". Their
+/// corners are not judged, and #102 names "The answer of undo and of split" alone: no counts of edges.
+#[derive(Clone, Copy, Debug, Default, PartialEq, Eq)]
+pub struct FramesAnswer {
+    pub refusal: u64,
+    pub place: u64,
+    pub vertices: u64,
+    pub triangles: u64,
+}
+
+impl FramesAnswer {
+    /// "Other numbers in a refusal are 0."
+    pub(crate) fn refused(refusal: u64, place: u64) -> FramesAnswer {
+        FramesAnswer { refusal, place, vertices: 0, triangles: 0 }
     }
 
     /// "the refusal number (0 when accepted)"; "'Place' is 0 unless named."
-    pub(crate) fn accepted(vertices: u64, triangles: usize) -> Answer {
-        Answer { refusal: 0, place: 0, vertices, triangles: triangles as u64 }
+    pub(crate) fn accepted(vertices: u64, triangles: usize) -> FramesAnswer {
+        FramesAnswer { refusal: 0, place: 0, vertices, triangles: triangles as u64 }
     }
 }
 
@@ -108,23 +144,23 @@ fn refusals_2_to_10<const N: usize>(
 }
 
 /// Refusals 4 and 5 of reading and writing, or else the answer of an accepted mesh: it needs so much room, and `lent` was lent.
-pub(crate) fn answer_by_size(vertices: u64, triangles: usize, needed: usize, lent: usize) -> Answer {
+pub(crate) fn answer_by_size(vertices: u64, triangles: usize, needed: usize, lent: usize) -> FramesAnswer {
     // "F above 16,384 (split: above 4,096) or V above 32,767"
     if triangles > Limits::TRIANGLES || vertices > Limits::VERTICES {
-        return Answer::refused(4, 0);
+        return FramesAnswer::refused(4, 0);
     }
     // "a lent buffer shorter than needed"
     if lent < needed {
-        return Answer::refused(5, 0);
+        return FramesAnswer::refused(5, 0);
     }
-    Answer::accepted(vertices, triangles)
+    FramesAnswer::accepted(vertices, triangles)
 }
 
 /// "Writing frames gives 2, 4, 5 and allows F = 0", and so does writing an index text.
-pub(crate) fn answer_to_write(vertices: u64, list: &[u16], needed: usize, lent: usize) -> Answer {
+pub(crate) fn answer_to_write(vertices: u64, list: &[u16], needed: usize, lent: usize) -> FramesAnswer {
     // "list length not a multiple of 3"
     if !list.len().is_multiple_of(3) {
-        return Answer::refused(2, 0);
+        return FramesAnswer::refused(2, 0);
     }
     answer_by_size(vertices, list.len() / 3, needed, lent)
 }
@@ -135,7 +171,7 @@ pub fn split(vertices: u64, list: &[u16], out: usize, work: &[usize]) -> (Answer
         Err(refused) => (refused, Vec::new()),
         Ok(mesh) => {
             let fine = splitting(&mesh);
-            (Answer::accepted(fine.vertices, fine.triangles.len()), fine.list())
+            (Answer::accepted(&fine), fine.list())
         }
     }
 }
@@ -173,7 +209,7 @@ pub fn undo_one(vertices: u64, list: &[u16], asked: u64, room: OneRoom, work: &[
         // "no reading in the role asked (asked 4: in any)"
         None => refused(Answer::refused(11, 0)),
         Some((role, m)) => One {
-            answer: Answer::accepted(m.coarse.vertices, m.coarse.triangles.len()),
+            answer: Answer::accepted(&m.coarse),
             role,
             mesh: m.coarse.list(),
             vertex_map: entries(&m.vertex_map),
@@ -205,7 +241,7 @@ pub fn undo_several(vertices: u64, list: &[u16], asked: u64, out: usize, work: &
         levels += 1;
         mesh = m.coarse;
     }
-    Several { answer: Answer::accepted(mesh.vertices, mesh.triangles.len()), levels, roles, mesh: mesh.list() }
+    Several { answer: Answer::accepted(&mesh), levels, roles, mesh: mesh.list() }
 }
 
 /// "A mesh is a vertex count V and an index list of length 3F"; "A mesh is *proper* when ...", see [`Mesh::proper`]. To the letter of

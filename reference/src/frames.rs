@@ -1,6 +1,6 @@
 //! Document 01, "Frames": reading and writing.
 
-use crate::calls::{answer_by_size, answer_to_write, Answer};
+use crate::calls::{answer_by_size, answer_to_write, FramesAnswer};
 
 /// The value of four upper-case hexadecimal digits; None if they are not.
 fn four_digits(digits: &[u8]) -> Option<u16> {
@@ -42,10 +42,10 @@ fn next_line<'a>(rest: &mut &'a [u8]) -> Option<&'a [u8]> {
 /// one; bytes after the last frame are refused at line F + 1."
 ///
 /// "Reading gives 12 for the first line, then 4, 5, then 12 for later lines." Room: "reading 3F".
-pub fn read_frames(bytes: &[u8], out: usize) -> (Answer, Vec<u16>) {
+pub fn read_frames(bytes: &[u8], out: usize) -> (FramesAnswer, Vec<u16>) {
     let mut rest = bytes;
     let Some([v, f]) = next_line(&mut rest).and_then(|line| frame::<2>(line, b"4D")) else {
-        return (Answer::refused(12, 0), Vec::new());
+        return (FramesAnswer::refused(12, 0), Vec::new());
     };
     let triangles = usize::from(f);
     let answer = answer_by_size(v.into(), triangles, 3 * triangles, out);
@@ -55,12 +55,12 @@ pub fn read_frames(bytes: &[u8], out: usize) -> (Answer, Vec<u16>) {
     let mut list = Vec::new();
     for k in 0..triangles {
         let Some(corners) = next_line(&mut rest).and_then(|line| frame::<3>(line, b"46")) else {
-            return (Answer::refused(12, k as u64 + 1), Vec::new());
+            return (FramesAnswer::refused(12, k as u64 + 1), Vec::new());
         };
         list.extend(corners);
     }
     if !rest.is_empty() {
-        return (Answer::refused(12, triangles as u64 + 1), Vec::new());
+        return (FramesAnswer::refused(12, triangles as u64 + 1), Vec::new());
     }
     (answer, list)
 }
@@ -76,7 +76,7 @@ pub(crate) fn frames(vertices: u64, list: &[u16]) -> String {
 }
 
 /// "Writing frames gives 2, 4, 5 and allows F = 0." Room: "writing 11 + 15F bytes".
-pub fn write_frames(vertices: u64, list: &[u16], out: usize) -> (Answer, Vec<u8>) {
+pub fn write_frames(vertices: u64, list: &[u16], out: usize) -> (FramesAnswer, Vec<u8>) {
     let answer = answer_to_write(vertices, list, 11 + 15 * (list.len() / 3), out);
     (answer, if answer.refusal == 0 { frames(vertices, list).into_bytes() } else { Vec::new() })
 }

@@ -3,7 +3,7 @@
 //! A text is taken apart in steps, each for the whole of it: comments become blanks, what stands between separators is a run, each run
 //! is a word by itself, and the words up to each -1 are a face. No byte moves on the way, so that a run's offset is its place.
 
-use crate::calls::{answer_by_size, answer_to_write, Answer};
+use crate::calls::{answer_by_size, answer_to_write, FramesAnswer};
 
 /// "a corner above 65,535" is at fault.
 const GREATEST_CORNER: &str = "65535";
@@ -99,9 +99,9 @@ fn corners_of(face: &[Placed]) -> impl Iterator<Item = u16> + '_ {
 
 /// "The vertex count comes from the caller. The reader gives 4 and 5"; "14, text not of this form, a corner above 65,535 or a face not of
 /// three corners, ... before 4." Room: "reading 3F". Corners are not judged against V, as in frames.
-pub fn read_index(vertices: u64, text: &[u8], out: usize) -> (Answer, Vec<u16>) {
+pub fn read_index(vertices: u64, text: &[u8], out: usize) -> (FramesAnswer, Vec<u16>) {
     match corners(text) {
-        Err(place) => (Answer::refused(14, place), Vec::new()),
+        Err(place) => (FramesAnswer::refused(14, place), Vec::new()),
         Ok(list) => {
             let answer = answer_by_size(vertices, list.len() / 3, list.len(), out);
             (answer, if answer.refusal == 0 { list } else { Vec::new() })
@@ -117,7 +117,7 @@ fn index_text(list: &[u16]) -> String {
 
 /// "The reader gives 4 and 5, the writer 2, 4, and 5 for the bytes it writes." The fifth number of its answer is how many bytes are
 /// returned.
-pub fn write_index(vertices: u64, list: &[u16], out: usize) -> (Answer, Vec<u8>) {
+pub fn write_index(vertices: u64, list: &[u16], out: usize) -> (FramesAnswer, Vec<u8>) {
     let text = index_text(list);
     let answer = answer_to_write(vertices, list, text.len(), out);
     (answer, if answer.refusal == 0 { text.into_bytes() } else { Vec::new() })

@@ -1,5 +1,5 @@
-//! An independent implementation of Flatcarol: a plain rendering of document 01, and of request 101 of document 02, to be checked
-//! against them sentence by sentence. It shares no code with the proved library, and is compared with it.
+//! An independent implementation of Flatcarol: a plain rendering of document 01, and of the requests 101 and 102 of document 02, to be
+//! checked against them sentence by sentence. It shares no code with the proved library, and is compared with it.
 
 pub mod calls;
 pub mod exhaustive;
@@ -11,7 +11,7 @@ pub mod reading;
 pub mod splitting;
 pub mod spreading;
 
-pub use calls::{proper, reading_in, split, undo_one, undo_several, Answer, One, OneRoom, Reading, Search, Several};
+pub use calls::{proper, reading_in, split, undo_one, undo_several, Answer, FramesAnswer, One, OneRoom, Reading, Search, Several};
 pub use frames::{read_frames, write_frames};
 pub use index::{read_index, write_index};
 pub use program::program;

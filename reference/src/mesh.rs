@@ -1,6 +1,6 @@
 //! Document 01, "Meshes": edges, proper, and the faults 6 to 10 with their least places.
 
-use std::collections::BTreeSet;
+use std::collections::{BTreeMap, BTreeSet};
 
 /// "Mesh sizes are numbers with constants on one limits type, not scattered through the code."
 pub struct Limits;
@@ -124,6 +124,20 @@ impl Mesh {
             && self.same_as_an_earlier().is_none()
             && self.vertex_in_no_triangle().is_none()
             && self.not_connected().is_none()
+    }
+
+    /// Document 02, #102: "the resulting mesh's edge count and boundary edge count", in this order, of a mesh whose triangles have three
+    /// different corners each.
+    ///
+    /// "An edge is an unordered pair of different vertices that occur together in a triangle. An edge is boundary, regular or singular
+    /// when one, two, or three and more triangles have it": how many triangles have each edge is counted in the list itself.
+    pub fn edge_counts(&self) -> (u64, u64) {
+        let mut have: BTreeMap<Edge, u64> = BTreeMap::new();
+        for e in self.triangles.iter().flat_map(edges) {
+            *have.entry(e).or_insert(0) += 1;
+        }
+        let boundary = have.values().filter(|&&triangles| triangles == 1).count();
+        (have.len() as u64, boundary as u64)
     }
 }
 

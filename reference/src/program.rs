@@ -1,12 +1,12 @@
 //! Document 01, "Frames": the program.
 
-use crate::calls::{undo_one, Answer, OneRoom, Search};
+use crate::calls::{undo_one, OneRoom, Search};
 use crate::frames::{frames, read_frames};
 use crate::mesh::Limits;
 
 /// "writes 41, then two digits each of refusal number and role, and four of place."
-fn first_line(answer: Answer, role: u64) -> String {
-    format!("41{:02X}{:02X}{:04X}\n", answer.refusal, role, answer.place)
+fn first_line(refusal: u64, role: u64, place: u64) -> String {
+    format!("41{refusal:02X}{role:02X}{place:04X}\n")
 }
 
 /// "The program reads standard input, has room for 1,024 triangles and 1,026 vertices (more triangles are refused 5 by reading, more
@@ -16,11 +16,11 @@ fn first_line(answer: Answer, role: u64) -> String {
 pub fn program(input: &[u8]) -> Vec<u8> {
     // "the program gives 13 before anything else"
     if input.len() > Limits::PROGRAM_BYTES {
-        return first_line(Answer::refused(13, 0), 0).into_bytes();
+        return first_line(13, 0, 0).into_bytes();
     }
     let (read, list) = read_frames(input, 3 * Limits::PROGRAM_TRIANGLES);
     if read.refusal != 0 {
-        return first_line(read, 0).into_bytes();
+        return first_line(read.refusal, 0, read.place).into_bytes();
     }
     let room = OneRoom {
         mesh: 3 * (Limits::PROGRAM_TRIANGLES / 4),
@@ -29,7 +29,7 @@ pub fn program(input: &[u8]) -> Vec<u8> {
     };
     let work = [Limits::PROGRAM_VERTICES + 3 * Limits::PROGRAM_TRIANGLES];
     let one = undo_one(read.vertices, &list, 4, room, &work, Search::Spreading);
-    let mut text = first_line(one.answer, one.role);
+    let mut text = first_line(one.answer.refusal, one.role, one.answer.place);
     if one.answer.refusal == 0 {
         text += &frames(one.answer.vertices, &one.mesh);
         for n in &one.vertex_map {

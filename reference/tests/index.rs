@@ -3,20 +3,20 @@
 mod common;
 
 use common::Random;
-use reference::{read_index, write_index, Answer};
+use reference::{read_index, write_index, FramesAnswer};
 
 /// Room for every text of this file but the long ones.
 const ROOM: usize = 30;
 
-fn refused(refusal: u64, place: u64) -> (Answer, Vec<u16>) {
-    (Answer { refusal, place, vertices: 0, triangles: 0 }, vec![])
+fn refused(refusal: u64, place: u64) -> (FramesAnswer, Vec<u16>) {
+    (FramesAnswer { refusal, place, vertices: 0, triangles: 0 }, vec![])
 }
 
-fn accepted(vertices: u64, list: &[u16]) -> (Answer, Vec<u16>) {
-    (Answer { refusal: 0, place: 0, vertices, triangles: list.len() as u64 / 3 }, list.to_vec())
+fn accepted(vertices: u64, list: &[u16]) -> (FramesAnswer, Vec<u16>) {
+    (FramesAnswer { refusal: 0, place: 0, vertices, triangles: list.len() as u64 / 3 }, list.to_vec())
 }
 
-fn read(text: impl AsRef<[u8]>) -> (Answer, Vec<u16>) {
+fn read(text: impl AsRef<[u8]>) -> (FramesAnswer, Vec<u16>) {
     read_index(9, text.as_ref(), ROOM)
 }
 

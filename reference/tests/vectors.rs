@@ -37,18 +37,19 @@ fn answers() {
     assert_eq!(run("# a comment"), "");
     assert_eq!(
         run("3 4 0 5 8\n6 0"),
-        "split 3 0 0 0\none 0 3 0 0 0 0\nseveral 8 1 0 0 0 0 0 0 0 0 0 0 0\nseveral 0 3 0 0 0 0 0 0 0 0 0 0 0\n"
+        "split 3 0 0 0 0 0\none 0 3 0 0 0 0 0 0\n\
+         several 8 1 0 0 0 0 0 0 0 0 0 0 0 0 0\nseveral 0 3 0 0 0 0 0 0 0 0 0 0 0 0 0\n"
     );
     let text = "# one triangle\n1 3 3\n# its corners\n0 1 2\n3 4 4 6 7 5 0 2 0 2 1 4 0";
-    let expected = "split 0 0 6 4\n12: 3 4 5 0 3 5 1 4 3 2 5 4\n\
-                    one 4 0 0 3 1 0\n3: 0 1 2\n6: 0 1 2 3 4 5\n4: 0 1 2 3\n\
-                    several 7 0 0 3 1 1 0 0 0 0 0 0 0\n3: 0 1 2\n\
-                    several 0 0 0 3 1 0 0 0 0 0 0 0 0\n3: 0 1 2\n\
-                    one 0 8 1 0 0 0\n";
+    let expected = "split 0 0 6 4 9 6\n12: 3 4 5 0 3 5 1 4 3 2 5 4\n\
+                    one 4 0 0 3 1 3 3 0\n3: 0 1 2\n6: 0 1 2 3 4 5\n4: 0 1 2 3\n\
+                    several 7 0 0 3 1 3 3 1 0 0 0 0 0 0 0\n3: 0 1 2\n\
+                    several 0 0 0 3 1 3 3 0 0 0 0 0 0 0 0\n3: 0 1 2\n\
+                    one 0 8 1 0 0 0 0 0\n";
     assert_eq!(run(text), expected);
-    assert_eq!(run("1 65535 3 0 1 2 3 1 3 2 0 1 4 4"), "split 4 0 0 0\none 4 2 0 0 0 0\n");
+    assert_eq!(run("1 65535 3 0 1 2 3 1 3 2 0 1 4 4"), "split 4 0 0 0 0 0\none 4 2 0 0 0 0 0 0\n");
     // numbers may begin with zeros and be large; comments may stand after numbers
-    assert_eq!(run("000003 # no mesh\n4 18446744073709551609"), "split 3 0 0 0\none 18446744073709551609 1 0 0 0 0\n");
+    assert_eq!(run("000003 # no mesh\n4 18446744073709551609"), "split 3 0 0 0 0 0\none 18446744073709551609 1 0 0 0 0 0 0\n");
     // the bytes of frames may be anything
     assert_eq!(run("8 0 2 #\n8 0 11\n4D00000000\n9"), "read 12 0 0 0\nread 0 0 0 0\n0:\nwrite 0 0 0 0\n4D00000000\n\n");
     // and those of an index text; written, a byte that is as it was lent is a dot
@@ -97,10 +98,10 @@ fn wrong_files() {
     ] {
         assert!(run(text).ends_with("wrong\n"), "{text:?}");
     }
-    assert_eq!(run("3 12 3"), "split 3 0 0 0\nwrong\n");
+    assert_eq!(run("3 12 3"), "split 3 0 0 0 0 0\nwrong\n");
     // 49,155 entries are allowed, three more are not
     let mut text = String::from("1 3 49155");
     text += &" 0".repeat(49_155);
-    assert_eq!(run(&(text.clone() + " 3")), "split 4 0 0 0\n");
+    assert_eq!(run(&(text.clone() + " 3")), "split 4 0 0 0 0 0\n");
     assert_eq!(run(&(text + " 2 0 0 0 3")), "wrong\n");
 }

@@ -25,7 +25,7 @@ fn split_figure(mut file: String) -> Result<String, Box<dyn Error>> {
     // The text does not tell the number of vertices: it is that of the points.
     let mesh = Mesh::from_index(points.len(), &file[index_at.clone()]).map_err(|refusal| told(refusal, &file, index_at.start))?;
 
-    let fine = mesh.split(&mut Room::new())?;
+    let fine = mesh.split(&mut Room::new())?.fine;
     let fine_points = with_midpoints(points, &mesh, &fine);
 
     let mut edits = [(points_at, write_points(&fine_points)), (index_at, String::from_utf8(fine.to_index()?)?)];

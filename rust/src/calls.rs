@@ -77,11 +77,26 @@ impl Asked {
     }
 }
 
+/// What [`split`] made: the counts of the fine mesh.
+#[derive(Clone, Copy, Debug, PartialEq, Eq)]
+pub struct SplitCounts {
+    /// The fine mesh: its list is the first entries of `out`.
+    pub fine: Counts,
+    /// How many edges the fine mesh has: pairs of vertices that some triangle has.
+    pub edges: usize,
+    /// How many of them exactly one triangle has. With none the mesh has no hole.
+    pub boundary_edges: usize,
+}
+
 /// What [`undo_one`] found: the counts of the coarse mesh, and the role.
 #[derive(Clone, Copy, Debug, PartialEq, Eq)]
 pub struct ReadingCounts {
-    /// The coarse mesh: its first entries stand in the buffer `mesh`.
+    /// The coarse mesh: its list is the first entries of the buffer `mesh`.
     pub coarse: Counts,
+    /// How many edges the coarse mesh has: pairs of vertices that some triangle has.
+    pub edges: usize,
+    /// How many of them exactly one triangle has. With none the mesh has no hole.
+    pub boundary_edges: usize,
     /// The role of triangle 0, from 0 to 3.
     pub role: u8,
 }
@@ -91,6 +106,10 @@ pub struct ReadingCounts {
 pub struct UndoneCounts {
     /// The coarsest mesh.
     pub coarse: Counts,
+    /// How many edges the coarsest mesh has: pairs of vertices that some triangle has.
+    pub edges: usize,
+    /// How many of them exactly one triangle has. With none the mesh has no hole.
+    pub boundary_edges: usize,
     /// How many levels were undone.
     pub levels: usize,
     /// The role taken at each level, the first one undone first. Behind them stand zeros.
@@ -116,7 +135,8 @@ pub struct TextCounts {
 ///
 /// let mut fine = [0; 12];
 /// let counts = split(3, &[0, 1, 2], &mut fine, &mut Room::new())?;
-/// assert_eq!(counts, Counts { vertices: 6, triangles: 4 });
+/// assert_eq!(counts.fine, Counts { vertices: 6, triangles: 4 });
+/// assert_eq!((counts.edges, counts.boundary_edges), (9, 6));
 /// assert_eq!(fine, [3, 4, 5, 0, 3, 5, 1, 4, 3, 2, 5, 4]);
 /// # Ok::<(), flatcarol::Refusal>(())
 /// ```
@@ -124,10 +144,11 @@ pub struct TextCounts {
 /// # Errors
 ///
 /// Refusals 2 to 10.
-pub fn split(vertices: usize, list: &[u16], out: &mut [u16], room: &mut Room) -> Result<Counts, Refusal> {
+pub fn split(vertices: usize, list: &[u16], out: &mut [u16], room: &mut Room) -> Result<SplitCounts, Refusal> {
     let work = room.lend(Counts::to_lend_for(vertices, list, Limits::SPLIT_TRIANGLES));
     let answer = raw::split(vertices as u64, list, out, work);
-    counts(answer.refusal, answer.place, answer.vertices, answer.triangles)
+    let fine = counts(answer.refusal, answer.place, answer.vertices, answer.triangles)?;
+    Ok(SplitCounts { fine, edges: answer.edges as usize, boundary_edges: answer.boundary_edges as usize })
 }
 
 /// Undoes one split. Of `out`, `mesh` needs 3 entries for every four triangles, the vertex map one for each vertex and the triangle
@@ -144,6 +165,7 @@ pub fn split(vertices: usize, list: &[u16], out: &mut [u16], room: &mut Room) ->
 /// let out = OneOutputs { mesh: &mut mesh, vertex_map: &mut vertex_map, triangle_map: &mut triangle_map };
 /// let reading = undo_one(6, &list, Asked::Least, out, &mut Room::new())?;
 /// assert_eq!((reading.role, reading.coarse.vertices, reading.coarse.triangles), (1, 3, 1));
+/// assert_eq!((reading.edges, reading.boundary_edges), (3, 3));
 /// assert_eq!(mesh, [0, 2, 1]);
 /// assert_eq!(vertex_map, [4, 5, 0, 3, 1, 2]);
 /// assert_eq!(triangle_map, [2, 3, 0, 1]);
@@ -157,13 +179,14 @@ pub fn undo_one(vertices: usize, list: &[u16], asked: Asked, out: OneOutputs, ro
     let work = room.lend(Counts::to_lend_for(vertices, list, Limits::TRIANGLES));
     let answer = raw::undo_one(vertices as u64, list, asked.number(), out, work);
     let coarse = counts(answer.refusal, answer.place, answer.vertices, answer.triangles)?;
-    Ok(ReadingCounts { coarse, role: answer.role as u8 })
+    let (edges, boundary_edges) = (answer.edges as usize, answer.boundary_edges as usize);
+    Ok(ReadingCounts { coarse, edges, boundary_edges, role: answer.role as u8 })
 }
 
 /// Undoes up to `levels` splits, from 0 to 7, each in the least role that has a reading. `out` needs as many entries as `list`.
 ///
 /// It stops when that many levels are undone or the mesh has no reading: that is no refusal, and may be after 0 levels. The coarsest
-/// mesh's list is the first entries of `out`. With 0 levels it tells whether a mesh is proper.
+/// mesh's list is the first entries of `out`. With 0 levels it tells whether a mesh is proper, and counts its edges.
 ///
 /// ```
 /// use flatcarol::{undo_several, Room};
@@ -172,6 +195,7 @@ pub fn undo_one(vertices: usize, list: &[u16], asked: Asked, out: OneOutputs, ro
 /// let mut coarse = [0; 12];
 /// let undone = undo_several(6, &list, 7, &mut coarse, &mut Room::new())?;
 /// assert_eq!((undone.levels, undone.roles[0]), (1, 0));
+/// assert_eq!((undone.edges, undone.boundary_edges), (3, 3));
 /// assert_eq!(coarse[..undone.coarse.entries()], [0, 1, 2]);
 /// # Ok::<(), flatcarol::Refusal>(())
 /// ```
@@ -189,7 +213,8 @@ pub fn undo_several(
     let work = room.lend(Counts::to_lend_for(vertices, list, Limits::TRIANGLES));
     let answer = raw::undo_several(vertices as u64, list, levels as u64, out, work);
     let coarse = counts(answer.refusal, answer.place, answer.vertices, answer.triangles)?;
-    Ok(UndoneCounts { coarse, levels: answer.levels as usize, roles: answer.roles })
+    let (edges, boundary_edges) = (answer.edges as usize, answer.boundary_edges as usize);
+    Ok(UndoneCounts { coarse, edges, boundary_edges, levels: answer.levels as usize, roles: answer.roles })
 }
 
 /// Reads a mesh from its frames. `out` needs 3 entries for each triangle that the first line says.

@@ -14,10 +14,10 @@ mod room;
 
 pub use calls::{
     index_entries_at_most, read_frames, read_index, split, undo_one, undo_several, write_frames, write_index, Asked, Counts,
-    ReadingCounts, TextCounts, UndoneCounts,
+    ReadingCounts, SplitCounts, TextCounts, UndoneCounts,
 };
 pub use limits::Limits;
-pub use mesh::{Mesh, Reading, Undone};
+pub use mesh::{Mesh, Reading, Split, Undone};
 #[doc(inline)]
 pub use raw::OneOutputs;
 pub use refusal::Refusal;

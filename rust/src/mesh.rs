@@ -2,7 +2,7 @@
 
 use crate::{
     index_entries_at_most, read_frames, read_index, split, undo_one, undo_several, write_frames, write_index, Asked, Counts,
-    Limits, OneOutputs, Refusal, Room,
+    Limits, OneOutputs, ReadingCounts, Refusal, Room, SplitCounts, UndoneCounts,
 };
 
 /// A triangle mesh: so many vertices, and three entries of the list for each triangle. Any such value may be made; the calls refuse
@@ -15,11 +15,26 @@ pub struct Mesh {
     pub list: Vec<u16>,
 }
 
+/// A mesh, split: what [`Mesh::split`] gives.
+#[derive(Clone, Debug, PartialEq, Eq)]
+pub struct Split {
+    /// The splitting.
+    pub fine: Mesh,
+    /// How many edges `fine` has: pairs of vertices that some triangle has.
+    pub edges: usize,
+    /// How many of them exactly one triangle has. With none `fine` has no hole.
+    pub boundary_edges: usize,
+}
+
 /// A mesh read as a splitting: what [`Mesh::undo_one`] gives.
 #[derive(Clone, Debug, PartialEq, Eq)]
 pub struct Reading {
     /// The mesh that was split.
     pub coarse: Mesh,
+    /// How many edges `coarse` has: pairs of vertices that some triangle has.
+    pub edges: usize,
+    /// How many of them exactly one triangle has. With none `coarse` has no hole.
+    pub boundary_edges: usize,
     /// The role of the input's triangle 0: 0 if it is a centre, or 1, 2, 3 if its first, second or third corner is its kept vertex.
     pub role: u8,
     /// For each vertex of the input, its number in the splitting of `coarse`. The kept ones are those below `coarse.vertices`.
@@ -33,6 +48,10 @@ pub struct Reading {
 pub struct Undone {
     /// The mesh that was split at first.
     pub coarse: Mesh,
+    /// How many edges `coarse` has: pairs of vertices that some triangle has.
+    pub edges: usize,
+    /// How many of them exactly one triangle has. With none `coarse` has no hole.
+    pub boundary_edges: usize,
     /// The role taken at each level that was undone, in the order of undoing.
     pub roles: Vec<u8>,
 }
@@ -70,19 +89,20 @@ impl Mesh {
     /// ```
     /// use flatcarol::{Mesh, Room};
     ///
-    /// let fine = Mesh::new(3, [0, 1, 2]).split(&mut Room::new())?;
-    /// assert_eq!(fine, Mesh::new(6, [3, 4, 5, 0, 3, 5, 1, 4, 3, 2, 5, 4]));
+    /// let split = Mesh::new(3, [0, 1, 2]).split(&mut Room::new())?;
+    /// assert_eq!(split.fine, Mesh::new(6, [3, 4, 5, 0, 3, 5, 1, 4, 3, 2, 5, 4]));
+    /// assert_eq!((split.edges, split.boundary_edges), (9, 6));
     /// # Ok::<(), flatcarol::Refusal>(())
     /// ```
     ///
     /// # Errors
     ///
     /// Refusals 2 to 10, but for 5.
-    pub fn split(&self, room: &mut Room) -> Result<Mesh, Refusal> {
+    pub fn split(&self, room: &mut Room) -> Result<Split, Refusal> {
         let lent = Counts::to_lend_for(self.vertices, &self.list, Limits::SPLIT_TRIANGLES);
-        let mut fine = vec![0; 4 * lent.entries()];
-        let counts = split(self.vertices, &self.list, &mut fine, room)?;
-        Ok(Mesh::cut(counts, fine))
+        let mut list = vec![0; 4 * lent.entries()];
+        let SplitCounts { fine, edges, boundary_edges } = split(self.vertices, &self.list, &mut list, room)?;
+        Ok(Split { fine: Mesh::cut(fine, list), edges, boundary_edges })
     }
 
     /// Undoes one split, in the role asked. See [`undo_one`].
@@ -94,6 +114,7 @@ impl Mesh {
     /// let mesh = Mesh::new(6, [5, 0, 3, 4, 1, 0, 3, 0, 1, 2, 3, 1]);
     /// let reading = mesh.undo_one(Asked::Least, &mut room)?;
     /// assert_eq!(reading.coarse, Mesh::new(3, [0, 2, 1]));
+    /// assert_eq!((reading.edges, reading.boundary_edges), (3, 3));
     /// assert_eq!(reading.role, 1);
     /// assert_eq!(mesh.undo_one(Asked::Role(0), &mut room), Err(Refusal::NoReading));
     /// # Ok::<(), Refusal>(())
@@ -104,12 +125,12 @@ impl Mesh {
     /// Refusals 1 to 11, but for 5.
     pub fn undo_one(&self, asked: Asked, room: &mut Room) -> Result<Reading, Refusal> {
         let lent = Counts::to_lend_for(self.vertices, &self.list, Limits::TRIANGLES);
-        let mut coarse = vec![0; 3 * (lent.triangles / 4)];
+        let mut list = vec![0; 3 * (lent.triangles / 4)];
         let mut vertex_map = vec![0; lent.vertices];
         let mut triangle_map = vec![0; lent.triangles];
-        let out = OneOutputs { mesh: &mut coarse, vertex_map: &mut vertex_map, triangle_map: &mut triangle_map };
-        let reading = undo_one(self.vertices, &self.list, asked, out, room)?;
-        Ok(Reading { coarse: Mesh::cut(reading.coarse, coarse), role: reading.role, vertex_map, triangle_map })
+        let out = OneOutputs { mesh: &mut list, vertex_map: &mut vertex_map, triangle_map: &mut triangle_map };
+        let ReadingCounts { coarse, edges, boundary_edges, role } = undo_one(self.vertices, &self.list, asked, out, room)?;
+        Ok(Reading { coarse: Mesh::cut(coarse, list), edges, boundary_edges, role, vertex_map, triangle_map })
     }
 
     /// Undoes up to `levels` splits, from 0 to 7, each in the least role that has a reading. See [`undo_several`].
@@ -119,9 +140,21 @@ impl Mesh {
     ///
     /// let mut room = Room::new();
     /// let triangle = Mesh::new(3, [0, 1, 2]);
-    /// let undone = triangle.split(&mut room)?.split(&mut room)?.undo_several(7, &mut room)?;
+    /// let fine = triangle.split(&mut room)?.fine.split(&mut room)?.fine;
+    /// let undone = fine.undo_several(7, &mut room)?;
     /// assert_eq!(undone.coarse, triangle);
     /// assert_eq!(undone.roles, [0, 0]);
+    /// # Ok::<(), flatcarol::Refusal>(())
+    /// ```
+    ///
+    /// With 0 levels the mesh comes back as it is, with its own counts:
+    ///
+    /// ```
+    /// use flatcarol::{Mesh, Room};
+    ///
+    /// let tetrahedron = Mesh::new(4, [0, 1, 2, 0, 3, 1, 1, 3, 2, 2, 3, 0]);
+    /// let counted = tetrahedron.undo_several(0, &mut Room::new())?;
+    /// assert_eq!((counted.edges, counted.boundary_edges), (6, 0)); // no hole
     /// # Ok::<(), flatcarol::Refusal>(())
     /// ```
     ///
@@ -130,9 +163,10 @@ impl Mesh {
     /// Refusals 1 to 10, but for 5.
     pub fn undo_several(&self, levels: usize, room: &mut Room) -> Result<Undone, Refusal> {
         let lent = Counts::to_lend_for(self.vertices, &self.list, Limits::TRIANGLES);
-        let mut coarse = vec![0; lent.entries()];
-        let undone = undo_several(self.vertices, &self.list, levels, &mut coarse, room)?;
-        Ok(Undone { coarse: Mesh::cut(undone.coarse, coarse), roles: undone.roles[..undone.levels].to_vec() })
+        let mut list = vec![0; lent.entries()];
+        let UndoneCounts { coarse, edges, boundary_edges, levels, roles } =
+            undo_several(self.vertices, &self.list, levels, &mut list, room)?;
+        Ok(Undone { coarse: Mesh::cut(coarse, list), edges, boundary_edges, roles: roles[..levels].to_vec() })
     }
 
     /// Reads a mesh from its frames. See [`read_frames`].

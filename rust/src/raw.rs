@@ -1,7 +1,7 @@
 //! The library's calls as C functions, and each behind a safe function on slices. How long the buffers must be is said in
 //! docs/ROOM.md; a shorter one is refused.
 
-/// What a call answers: the refusal's number and place, or 0, 0 and the resulting counts.
+/// What split answers: the refusal's number and place, or 0, 0 and what is counted of the resulting mesh.
 #[repr(C)]
 #[derive(Clone, Copy, Debug, Default, PartialEq, Eq)]
 pub struct Answer {
@@ -9,6 +9,8 @@ pub struct Answer {
     pub place: u64,
     pub vertices: u64,
     pub triangles: u64,
+    pub edges: u64,
+    pub boundary_edges: u64,
 }
 
 /// What undo one answers: the same, and the role that triangle 0 has.
@@ -19,6 +21,8 @@ pub struct OneAnswer {
     pub place: u64,
     pub vertices: u64,
     pub triangles: u64,
+    pub edges: u64,
+    pub boundary_edges: u64,
     pub role: u64,
 }
 
@@ -30,11 +34,24 @@ pub struct SeveralAnswer {
     pub place: u64,
     pub vertices: u64,
     pub triangles: u64,
+    pub edges: u64,
+    pub boundary_edges: u64,
     pub levels: u64,
     pub roles: [u8; 7],
 }
 
-/// What write index answers: the same as split, and how many bytes were written.
+/// What read frames, write frames and read index answer: the refusal's number and place, or 0, 0 and the counts of the mesh that was
+/// read or written.
+#[repr(C)]
+#[derive(Clone, Copy, Debug, Default, PartialEq, Eq)]
+pub struct FramesAnswer {
+    pub refusal: u64,
+    pub place: u64,
+    pub vertices: u64,
+    pub triangles: u64,
+}
+
+/// What write index answers: the same as write frames, and how many bytes were written.
 #[repr(C)]
 #[derive(Clone, Copy, Debug, Default, PartialEq, Eq)]
 pub struct TextAnswer {
@@ -86,9 +103,9 @@ declare! {
         u16: mesh, vertex_map, triangle_map, work1, work2, work3, work4, work5, work6, work7, work8, work9) -> OneAnswer;
     flatcarol_undo_several(vertices: u64, list: *const u16, list_len: usize, asked: u64;
         u16: out, work1, work2, work3, work4, work5, work6, work7, work8, work9, work10) -> SeveralAnswer;
-    flatcarol_read_frames(bytes: *const u8, bytes_len: usize; u16: out) -> Answer;
-    flatcarol_write_frames(vertices: u64, list: *const u16, list_len: usize; u8: out) -> Answer;
-    flatcarol_read_index(vertices: u64, text: *const u8, text_len: usize; u16: out) -> Answer;
+    flatcarol_read_frames(bytes: *const u8, bytes_len: usize; u16: out) -> FramesAnswer;
+    flatcarol_write_frames(vertices: u64, list: *const u16, list_len: usize; u8: out) -> FramesAnswer;
+    flatcarol_read_index(vertices: u64, text: *const u8, text_len: usize; u16: out) -> FramesAnswer;
     flatcarol_write_index(vertices: u64, list: *const u16, list_len: usize; u8: out) -> TextAnswer;
 }
 
@@ -122,19 +139,19 @@ pub fn undo_several(vertices: u64, list: &[u16], asked: u64, out: &mut [u16], wo
 }
 
 /// Reads a mesh from its frames.
-pub fn read_frames(bytes: &[u8], out: &mut [u16]) -> Answer {
+pub fn read_frames(bytes: &[u8], out: &mut [u16]) -> FramesAnswer {
     // SAFETY: as in `split`.
     unsafe { lend!(flatcarol_read_frames(bytes.as_ptr(), bytes.len(); out)) }
 }
 
 /// Writes a mesh as frames.
-pub fn write_frames(vertices: u64, list: &[u16], out: &mut [u8]) -> Answer {
+pub fn write_frames(vertices: u64, list: &[u16], out: &mut [u8]) -> FramesAnswer {
     // SAFETY: as in `split`.
     unsafe { lend!(flatcarol_write_frames(vertices, list.as_ptr(), list.len(); out)) }
 }
 
 /// Reads a mesh of `vertices` vertices from its index text.
-pub fn read_index(vertices: u64, text: &[u8], out: &mut [u16]) -> Answer {
+pub fn read_index(vertices: u64, text: &[u8], out: &mut [u16]) -> FramesAnswer {
     // SAFETY: as in `split`.
     unsafe { lend!(flatcarol_read_index(vertices, text.as_ptr(), text.len(); out)) }
 }
@@ -147,15 +164,16 @@ pub fn write_index(vertices: u64, list: &[u16], out: &mut [u8]) -> TextAnswer {
 
 #[cfg(test)]
 mod tests {
-    use super::{Answer, OneAnswer, SeveralAnswer, TextAnswer};
+    use super::{Answer, FramesAnswer, OneAnswer, SeveralAnswer, TextAnswer};
     use std::mem::{offset_of, size_of};
 
     // The size and where the last field is, as include/flatcarol.h has them: the fields before it are all of 64 bits.
     #[test]
     fn answers_have_the_layout_of_the_header() {
-        assert_eq!((size_of::<Answer>(), offset_of!(Answer, triangles)), (32, 24));
-        assert_eq!((size_of::<OneAnswer>(), offset_of!(OneAnswer, role)), (40, 32));
-        assert_eq!((size_of::<SeveralAnswer>(), offset_of!(SeveralAnswer, roles)), (48, 40));
+        assert_eq!((size_of::<Answer>(), offset_of!(Answer, boundary_edges)), (48, 40));
+        assert_eq!((size_of::<OneAnswer>(), offset_of!(OneAnswer, role)), (56, 48));
+        assert_eq!((size_of::<SeveralAnswer>(), offset_of!(SeveralAnswer, roles)), (64, 56));
+        assert_eq!((size_of::<FramesAnswer>(), offset_of!(FramesAnswer, triangles)), (32, 24));
         assert_eq!((size_of::<TextAnswer>(), offset_of!(TextAnswer, bytes)), (40, 32));
     }
 }

@@ -53,6 +53,10 @@ static const uint16_t sample_triangles[4] = {2, 3, 0, 1};
 /* Three triangles on one edge. */
 static const uint16_t fin[9] = {0, 1, 2, 0, 1, 3, 0, 1, 4};
 
+/* The same, split, where the triangle (2, 7, 6) comes first and is turned: its second corner is kept, role 2. */
+static const uint16_t fin_turned[36] = {
+    7, 2, 6, 5, 6, 7, 0, 5, 7, 1, 6, 5, 5, 8, 9, 0, 5, 9, 1, 8, 5, 3, 9, 8, 5, 10, 11, 0, 5, 11, 1, 10, 5, 4, 11, 10};
+
 /* ---- the archive's own functions: each buffer in its place, with its own length */
 
 /* A buffer of which so many entries are lent. All hold 7 at first, also those behind. */
@@ -106,6 +110,7 @@ static void try_split(size_t shorter)
     const int refused = shorter != 0;
     expect(a.refusal == (refused ? 5u : 0u) && a.place == 0, "split is refused 5 or accepted", shorter);
     expect(a.vertices == (refused ? 0u : 6u) && a.triangles == (refused ? 0u : 4u), "split's counts", shorter);
+    expect(a.edges == (refused ? 0u : 9u) && a.boundary_edges == (refused ? 0u : 6u), "split's edges", shorter);
     expect_output(&b[0], triangle_split, 12, a.refusal, shorter);
     expect_work(b + 1, 5, shorter);
 }
@@ -122,6 +127,7 @@ static void try_undo_one(size_t shorter)
     const int refused = shorter != 0;
     expect(a.refusal == (refused ? 5u : 0u) && a.place == 0, "undo one is refused 5 or accepted", shorter);
     expect(a.vertices == (refused ? 0u : 3u) && a.triangles == (refused ? 0u : 1u), "undo one's counts", shorter);
+    expect(a.edges == (refused ? 0u : 3u) && a.boundary_edges == (refused ? 0u : 3u), "undo one's edges", shorter);
     expect(a.role == (refused ? 0u : 1u), "undo one's role", shorter);
     expect_output(&b[0], sample_mesh, 3, a.refusal, shorter);
     expect_output(&b[1], sample_vertices, 6, a.refusal, shorter);
@@ -142,6 +148,7 @@ static void try_undo_several(size_t shorter)
     const int refused = shorter != 0;
     expect(a.refusal == (refused ? 5u : 0u) && a.place == 0, "undo several is refused 5 or accepted", shorter);
     expect(a.vertices == (refused ? 0u : 3u) && a.triangles == (refused ? 0u : 1u), "undo several's counts", shorter);
+    expect(a.edges == (refused ? 0u : 3u) && a.boundary_edges == (refused ? 0u : 3u), "undo several's edges", shorter);
     expect(a.levels == (refused ? 0u : 1u), "undo several's levels", shorter);
     expect(memcmp(a.roles, roles[refused], 7) == 0, "undo several's roles", shorter);
     expect_output(&b[0], sample_mesh, 3, a.refusal, shorter);
@@ -155,7 +162,7 @@ static void try_frames(void)
     memset(bytes, '7', sizeof bytes);
     lent out = lend(12);
 
-    flatcarol_answer a = flatcarol_write_frames(6, sample, 12, bytes, 70);
+    flatcarol_frames_answer a = flatcarol_write_frames(6, sample, 12, bytes, 70);
     expect(a.refusal == 5 && a.place == 0 && a.vertices == 0 && a.triangles == 0, "70 bytes are too short", 0);
     expect(bytes[0] == '7', "a refusal writes no byte", 0);
     a = flatcarol_write_frames(6, sample, 12, bytes, 72);
@@ -199,7 +206,7 @@ static void try_index(void)
     w = flatcarol_write_index(65545, list, 6, bytes, 23);
     expect(w.refusal == 4 && w.bytes == 0, "V is 9 modulo 2^16", 3);
 
-    flatcarol_answer r = flatcarol_read_index(9, bytes, 23, out.entries, out.len);
+    flatcarol_frames_answer r = flatcarol_read_index(9, bytes, 23, out.entries, out.len);
     expect(r.refusal == 14 && r.place == 20 && r.vertices == 0 && r.triangles == 0, "-17 closes no face", 0);
     r = flatcarol_read_index(9, bytes, 15, out.entries, out.len);
     expect(r.refusal == 14 && r.place == 15, "two corners are missing", 0);
@@ -230,12 +237,81 @@ static void try_last_role(void)
         expect(a.refusal == 0, "the sample is split", i);
         vertices = a.vertices;
         triangles = a.triangles;
+        /* A triangle in n rows: n(n + 1)/2 small ones stand as it does, and each edge is on just one of these. */
+        const uint64_t n = (uint64_t)4 << i;
+        expect(a.edges == 3 * n * (n + 1) / 2 && a.boundary_edges == 3 * n, "the edges of n rows", n);
     }
     const flatcarol_several_answer a = flatcarol_undo_several_in(
         vertices, lists[0], 3 * triangles, 7, lists[1], 3 * FLATCAROL_MOST_TRIANGLES, work, most);
     expect(triangles == FLATCAROL_MOST_TRIANGLES && a.refusal == 0 && a.levels == 7, "seven levels are undone", 0);
     expect(memcmp(a.roles, roles, 7) == 0, "the seventh role is the sample's", 0);
     expect(a.vertices == 3 && a.triangles == 1 && same(lists[1], sample_mesh, 3), "the sample's mesh is left", 0);
+    expect(a.edges == 3 && a.boundary_edges == 3, "the edges of the sample's mesh", 0);
+}
+
+/* ---- edges and boundary edges, document 02's request 102 */
+
+/* In each of these answers no two numbers but zeros are the same, so that fields in each other's place are seen. */
+static void try_fields(void)
+{
+    uint16_t out[48];
+    uint16_t vertex_map[12];
+    uint16_t triangle_map[12];
+    uint16_t work[10 * 48];
+    /* The sample, 4 triangles with 9 edges, split. */
+    const flatcarol_answer s = flatcarol_split_in(6, sample, 12, out, 48, work, 10 * 48);
+    expect(s.refusal == 0 && s.place == 0 && s.vertices == 15 && s.triangles == 16, "the sample, split", 0);
+    expect(s.edges == 30 && s.boundary_edges == 12, "the edges of the sample, split", 0);
+
+    const flatcarol_one_answer o = flatcarol_undo_one_in(
+        12, fin_turned, 36, FLATCAROL_ANY_ROLE, out, 48, vertex_map, 12, triangle_map, 12, work, 10 * 48);
+    expect(o.refusal == 0 && o.place == 0 && o.vertices == 5 && o.triangles == 3, "the fin, undone once", 0);
+    expect(o.edges == 7 && o.boundary_edges == 6 && o.role == 2, "the fin's edges and role", 0);
+
+    const uint8_t roles[7] = {2, 0, 0, 0, 0, 0, 0};
+    const flatcarol_several_answer l = flatcarol_undo_several_in(12, fin_turned, 36, 7, out, 48, work, 10 * 48);
+    expect(l.refusal == 0 && l.place == 0 && l.vertices == 5 && l.triangles == 3, "the fin, undone as it goes", 0);
+    expect(l.edges == 7 && l.boundary_edges == 6 && l.levels == 1, "the fin's edges and levels", 0);
+    expect(memcmp(l.roles, roles, 7) == 0 && same(out, fin, 9), "the fin's roles, and the fin", 0);
+}
+
+/* The request's examples that are not tried elsewhere. */
+static void try_edges(void)
+{
+    /* Edges as document 01 calls them: the fin's edge 0-1, with three triangles, is no boundary edge, nor are its
+       halves. So 12 of the 23 edges of its splitting are. */
+    uint16_t out[216];
+    uint16_t work[10 * (36 + 216)];
+    const flatcarol_answer s = flatcarol_split_in(5, fin, 9, out, 36, work, flatcarol_split_work(5, 3));
+    expect(s.vertices == 12 && s.triangles == 12 && s.edges == 23 && s.boundary_edges == 12, "the fin, split", 0);
+
+    /* Asked 0, undo several counts the mesh that it is given. */
+    flatcarol_several_answer l = flatcarol_undo_several_in(3, triangle, 3, 0, out, 3, work, 10 * 6);
+    expect(l.vertices == 3 && l.triangles == 1 && l.edges == 3 && l.boundary_edges == 3, "one triangle", 0);
+    expect(l.refusal == 0 && l.levels == 0, "no level", 0);
+    l = flatcarol_undo_several_in(5, fin, 9, 0, out, 9, work, 10 * 14);
+    expect(l.vertices == 5 && l.triangles == 3 && l.edges == 7 && l.boundary_edges == 6, "the fin", 0);
+
+    /* The regular torus, 6 by 6: no boundary edge, in the coarse mesh as little as in the fine one. */
+    uint16_t torus[216];
+    uint16_t vertex_map[36];
+    uint16_t triangle_map[72];
+    for (size_t x = 0; x < 6; x++) {
+        for (size_t y = 0; y < 6; y++) {
+            const size_t right = (x + 1) % 6;
+            const size_t up = (y + 1) % 6;
+            const size_t corners[6] = {6 * x + y, 6 * right + y, 6 * right + up, 6 * x + y, 6 * right + up, 6 * x + up};
+            for (size_t i = 0; i < 6; i++) {
+                torus[6 * (6 * x + y) + i] = (uint16_t)corners[i];
+            }
+        }
+    }
+    const flatcarol_one_answer o = flatcarol_undo_one_in(
+        36, torus, 216, 0, out, 54, vertex_map, 36, triangle_map, 72, work, flatcarol_undo_one_work(36, 72));
+    expect(o.refusal == 0 && o.vertices == 9 && o.triangles == 18, "the torus in role 0", 0);
+    expect(o.edges == 27 && o.boundary_edges == 0 && o.role == 0, "the torus's edges", 0);
+    l = flatcarol_undo_several_in(36, torus, 216, 0, out, 216, work, flatcarol_undo_several_work(36, 72));
+    expect(l.refusal == 0 && l.edges == 108 && l.boundary_edges == 0, "the torus as it is", 0);
 }
 
 /* ---- lengths of work */
@@ -287,6 +363,30 @@ typedef enum call { SPLIT, UNDO_ONE, UNDO_SEVERAL } call;
 static const call calls[3] = {SPLIT, UNDO_ONE, UNDO_SEVERAL};
 static const size_t needed[3] = {5 * 18, 9 * 18, 10 * 18};
 
+/* The number of a refusal, in which all numbers after the place are 0. */
+static uint64_t split_refusal(flatcarol_answer a)
+{
+    const int zeros = a.vertices == 0 && a.triangles == 0 && a.edges == 0 && a.boundary_edges == 0;
+    expect(a.refusal == 0 || zeros, "a refusal of split has zeros", a.refusal);
+    return a.refusal;
+}
+
+static uint64_t one_refusal(flatcarol_one_answer a)
+{
+    const int zeros = a.vertices == 0 && a.triangles == 0 && a.edges == 0 && a.boundary_edges == 0 && a.role == 0;
+    expect(a.refusal == 0 || zeros, "a refusal of undo one has zeros", a.refusal);
+    return a.refusal;
+}
+
+static uint64_t several_refusal(flatcarol_several_answer a)
+{
+    const uint8_t none[7] = {0, 0, 0, 0, 0, 0, 0};
+    const int zeros = a.vertices == 0 && a.triangles == 0 && a.edges == 0 && a.boundary_edges == 0 && a.levels == 0;
+    const int no_roles = memcmp(a.roles, none, 7) == 0;
+    expect(a.refusal == 0 || (zeros && no_roles), "a refusal of undo several has zeros", a.refusal);
+    return a.refusal;
+}
+
 /* Makes one of the calls on a mesh with enough room for the output, in a block. Answers the refusal. */
 static uint64_t refusal_in(
     call which, uint64_t vertices, const uint16_t *list, size_t list_len, uint64_t asked, uint16_t *work,
@@ -296,13 +396,13 @@ static uint64_t refusal_in(
     uint16_t vertex_map[6];
     uint16_t triangle_map[4];
     switch (which) {
-    case SPLIT: return flatcarol_split_in(vertices, list, list_len, out, 48, work, work_len).refusal;
+    case SPLIT: return split_refusal(flatcarol_split_in(vertices, list, list_len, out, 48, work, work_len));
     case UNDO_ONE:
-        return flatcarol_undo_one_in(
-                   vertices, list, list_len, asked, out, 48, vertex_map, 6, triangle_map, 4, work, work_len)
-            .refusal;
+        return one_refusal(flatcarol_undo_one_in(
+            vertices, list, list_len, asked, out, 48, vertex_map, 6, triangle_map, 4, work, work_len));
     case UNDO_SEVERAL:
-    default: return flatcarol_undo_several_in(vertices, list, list_len, asked, out, 48, work, work_len).refusal;
+    default:
+        return several_refusal(flatcarol_undo_several_in(vertices, list, list_len, asked, out, 48, work, work_len));
     }
 }
 
@@ -334,20 +434,35 @@ static void try_null(void)
         expect(refusal_in(calls[i], 0, NULL, 12, 1, work, 10 * 18) == 3, "no list, with a length", i);
         expect(refusal_in(calls[i], 0, NULL, 0, 1, NULL, 0) == 3, "no list and no block", i);
     }
-    expect(flatcarol_split_in(6, sample, 12, NULL, 48, work, 10 * 18).refusal == 5, "no output", 0);
-    expect(flatcarol_undo_several_in(6, sample, 12, 1, NULL, 12, work, 10 * 18).refusal == 5, "no output", 1);
+    expect(split_refusal(flatcarol_split_in(6, sample, 12, NULL, 48, work, 10 * 18)) == 5, "no output", 0);
+    expect(several_refusal(flatcarol_undo_several_in(6, sample, 12, 1, NULL, 12, work, 10 * 18)) == 5, "no output", 1);
     uint16_t mesh[3];
     uint16_t map[6];
     uint16_t other[4];
     flatcarol_one_answer one = flatcarol_undo_one_in(6, sample, 12, 1, NULL, 3, map, 6, other, 4, work, 10 * 18);
-    expect(one.refusal == 5, "no mesh", 0);
+    expect(one_refusal(one) == 5, "no mesh", 0);
     one = flatcarol_undo_one_in(6, sample, 12, 1, mesh, 3, NULL, 6, other, 4, work, 10 * 18);
-    expect(one.refusal == 5, "no vertex map", 0);
+    expect(one_refusal(one) == 5, "no vertex map", 0);
     one = flatcarol_undo_one_in(6, sample, 12, 1, mesh, 3, map, 6, NULL, 4, work, 10 * 18);
-    expect(one.refusal == 5, "no triangle map", 0);
+    expect(one_refusal(one) == 5, "no triangle map", 0);
     /* One triangle needs no entry for the coarse mesh, and so no pointer. */
     one = flatcarol_undo_one_in(3, triangle, 3, 4, NULL, 0, map, 3, other, 1, work, 10 * 18);
-    expect(one.refusal == 11, "no mesh where none is needed", 0);
+    expect(one_refusal(one) == 11, "no mesh where none is needed", 0);
+}
+
+/* Document 01's meshes that are refused 6 to 10. */
+static void try_improper(void)
+{
+    const uint16_t lists[5][6] = {{0, 1, 2}, {0, 0, 1}, {0, 1, 2, 0, 2, 1}, {0, 1, 2}, {0, 1, 2, 0, 3, 4}};
+    const size_t lengths[5] = {3, 3, 6, 3, 6};
+    const uint64_t vertices[5] = {2, 2, 3, 4, 5};
+    uint16_t work[10 * 18];
+    for (size_t c = 0; c < 3; c++) {
+        for (size_t i = 0; i < 5; i++) {
+            const uint64_t refusal = refusal_in(calls[c], vertices[i], lists[i], lengths[i], 4, work, 10 * 18);
+            expect(refusal == 6 + i, "an improper mesh", i);
+        }
+    }
 }
 
 static void try_absurd(void)
@@ -471,10 +586,13 @@ int main(void)
     try_frames();
     try_index();
     try_last_role();
+    try_fields();
+    try_edges();
     try_lengths();
     try_index_lengths();
     try_blocks();
     try_null();
+    try_improper();
     try_absurd();
     try_limits();
     try_texts();

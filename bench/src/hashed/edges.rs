@@ -40,6 +40,11 @@ impl Edges {
         self.edges.len()
     }
 
+    // How many of them have one half-edge.
+    pub fn boundary(&self) -> usize {
+        self.edges.iter().filter(|edge| edge.count == 1).count()
+    }
+
     // The numbers of the edges of each triangle.
     pub fn numbers(&self) -> &[[usize; 3]] {
         self.numbers.as_chunks().0

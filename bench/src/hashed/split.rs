@@ -1,7 +1,7 @@
 // Split.
 use super::judge;
 use crate::library::{Answer, SplitWork};
-use crate::refusals::{answer, judge_split, Counts, Refusal};
+use crate::refusals::{answer, judge_split, split_counts, MeshCounts, Refusal};
 
 // Never inlined, since the library's call is not either.
 #[inline(never)]
@@ -11,7 +11,7 @@ pub fn split(vertices: u64, list: &[u16], out: &mut [u16], _: &mut SplitWork) ->
 }
 
 // Refusals 6 to 10, and the split.
-fn split_mesh(vertices: usize, list: &[u16], out: &mut [u16]) -> Result<Counts, Refusal> {
+fn split_mesh(vertices: usize, list: &[u16], out: &mut [u16]) -> Result<MeshCounts, Refusal> {
     let triangles = list.as_chunks().0;
     let edges = judge(vertices, triangles)?;
     let fours = out.as_chunks_mut::<12>().0;
@@ -19,5 +19,6 @@ fn split_mesh(vertices: usize, list: &[u16], out: &mut [u16]) -> Result<Counts, 
         let [e12, e23, e31] = numbers.map(|number| (vertices + number) as u16);
         *four = [e12, e23, e31, v1, e12, e31, v2, e23, e12, v3, e31, e23];
     }
-    Ok((vertices + edges.count(), 4 * triangles.len()))
+    let (edges, boundary_edges) = (edges.count(), edges.boundary());
+    Ok(split_counts(MeshCounts { vertices, triangles: triangles.len(), edges, boundary_edges }))
 }

@@ -2,7 +2,7 @@
 use super::cover::Cover;
 use super::judge;
 use crate::library::{OneAnswer, OneOutputs, OneWork};
-use crate::refusals::{judge_undo_one, one_answer, Counts, Refusal, ANY_ROLE};
+use crate::refusals::{coarse_counts, judge_undo_one, one_answer, MeshCounts, Refusal, ANY_ROLE};
 
 // Never inlined, since the library's call is not either.
 #[inline(never)]
@@ -12,7 +12,7 @@ pub fn undo_one(vertices: u64, list: &[u16], asked: u64, out: &mut OneOutputs, _
 }
 
 // Refusals 6 to 11, and the reading.
-fn undo_mesh(vertices: usize, list: &[u16], asked: u64, out: &mut OneOutputs) -> Result<(usize, Counts), Refusal> {
+fn undo_mesh(vertices: usize, list: &[u16], asked: u64, out: &mut OneOutputs) -> Result<(usize, MeshCounts), Refusal> {
     let triangles = list.as_chunks().0;
     let edges = judge(vertices, triangles)?;
     let cover = Cover::new(vertices, triangles, &edges);
@@ -23,7 +23,7 @@ fn undo_mesh(vertices: usize, list: &[u16], asked: u64, out: &mut OneOutputs) ->
     out.mesh[..mesh.len()].copy_from_slice(mesh);
     write_map(&reading.vertex_map, &mut out.vertex_map);
     write_map(&reading.triangle_map, &mut out.triangle_map);
-    Ok((reading.role, (reading.vertices, reading.mesh.len())))
+    Ok((reading.role, coarse_counts(vertices, edges.boundary(), reading.vertices, reading.mesh.len())))
 }
 
 // Each entry has a number, since there are as many numbers as entries.

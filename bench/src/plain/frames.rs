@@ -1,6 +1,6 @@
 // Read frames and write frames. As in the library every line is judged before the first entry is written.
-use crate::library::Answer;
-use crate::refusals::{answer, judge_read, judge_write_frames, Counts, Refusal};
+use crate::library::FramesAnswer;
+use crate::refusals::{frames_answer, judge_read, judge_write_frames, Counts, Refusal};
 
 // The bytes of the first line, and of each of the others.
 const MESH_LINE: usize = 11;
@@ -8,8 +8,8 @@ const TRIANGLE_LINE: usize = 15;
 
 // Never inlined, since the library's call is not either.
 #[inline(never)]
-pub fn read_frames(bytes: &[u8], out: &mut [u16]) -> Answer {
-    answer(read(bytes, out))
+pub fn read_frames(bytes: &[u8], out: &mut [u16]) -> FramesAnswer {
+    frames_answer(read(bytes, out))
 }
 
 fn read(bytes: &[u8], out: &mut [u16]) -> Result<Counts, Refusal> {
@@ -58,9 +58,9 @@ fn digit_value(byte: u8) -> Option<u16> {
 
 // Never inlined, since the library's call is not either.
 #[inline(never)]
-pub fn write_frames(vertices: u64, list: &[u16], out: &mut [u8]) -> Answer {
+pub fn write_frames(vertices: u64, list: &[u16], out: &mut [u8]) -> FramesAnswer {
     let triangles = list.len() / 3;
-    answer(judge_write_frames(vertices, list.len(), out.len()).map(|()| {
+    frames_answer(judge_write_frames(vertices, list.len(), out.len()).map(|()| {
         let (mesh, lines) = out.split_at_mut(MESH_LINE);
         put_line(mesh, b"4D", &[vertices as u16, triangles as u16]);
         for (line, corners) in lines.chunks_exact_mut(TRIANGLE_LINE).zip(list.chunks_exact(3)) {

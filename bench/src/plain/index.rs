@@ -1,15 +1,15 @@
 // Read index and write index. As in the library every run is judged before the first entry is written, and every byte counted
 // before the first one is.
-use crate::library::{Answer, TextAnswer};
-use crate::refusals::{answer, judge_read, judge_room, judge_write, text_answer, Counts, Refusal};
+use crate::library::{FramesAnswer, TextAnswer};
+use crate::refusals::{frames_answer, judge_read, judge_room, judge_write, text_answer, Counts, Refusal};
 
 // What closes a face, in reading and in writing.
 const CLOSE: &[u8] = b"-1";
 
 // Never inlined, since the library's call is not either.
 #[inline(never)]
-pub fn read_index(vertices: u64, text: &[u8], out: &mut [u16]) -> Answer {
-    answer(read(vertices, text, out))
+pub fn read_index(vertices: u64, text: &[u8], out: &mut [u16]) -> FramesAnswer {
+    frames_answer(read(vertices, text, out))
 }
 
 fn read(vertices: u64, text: &[u8], out: &mut [u16]) -> Result<Counts, Refusal> {

@@ -209,6 +209,19 @@ fn number_edges(vertices: usize, ring: &[u16], numbers: &mut [u16]) -> usize {
     edges
 }
 
+// How many edges there are: each has one last half-edge, from which the ring leads back. Counted in 16 bits, as wide as the links, so
+// that several are compared at a time.
+fn count_edges(ring: &[u16]) -> usize {
+    let leads_back = |(h, &next): (usize, &u16)| u16::from(next <= h as u16);
+    usize::from(ring.iter().enumerate().map(leads_back).sum::<u16>())
+}
+
+// How many boundary edges there are: the half-edge of one triangle is alone on its ring.
+fn count_boundary(ring: &[u16]) -> usize {
+    let leads_to_itself = |(h, &next): (usize, &u16)| u16::from(next == h as u16);
+    usize::from(ring.iter().enumerate().map(leads_to_itself).sum::<u16>())
+}
+
 // The four triangles of each triangle.
 fn write_fours(list: &[u16], numbers: &[u16], out: &mut [u16]) {
     for ((four, v), e) in out.chunks_exact_mut(12).zip(list.chunks_exact(3)).zip(numbers.chunks_exact(3)) {

@@ -1,7 +1,7 @@
 // Split.
-use super::{clear, judge, number_edges, room, write_fours};
+use super::{clear, count_boundary, judge, number_edges, room, write_fours};
 use crate::library::{Answer, SplitWork};
-use crate::refusals::{answer, judge_split, Counts, Refusal};
+use crate::refusals::{answer, judge_split, split_counts, MeshCounts, Refusal};
 
 // Never inlined, since the library's call is not either.
 #[inline(never)]
@@ -13,12 +13,13 @@ pub fn split(vertices: u64, list: &[u16], out: &mut [u16], work: &mut SplitWork)
 }
 
 // Refusals 6 to 10, and the split.
-fn split_mesh(vertices: usize, list: &[u16], out: &mut [u16], work: &mut SplitWork) -> Result<Counts, Refusal> {
+fn split_mesh(vertices: usize, list: &[u16], out: &mut [u16], work: &mut SplitWork) -> Result<MeshCounts, Refusal> {
     let halves = list.len();
     let [ring, work1, work2, work3, work4] = work;
     judge(vertices, list, ring, [&mut *work1, work2, work3, work4])?;
     let numbers = &mut work1[..halves];
     let edges = number_edges(vertices, &ring[..halves], numbers);
     write_fours(list, numbers, out);
-    Ok((vertices + edges, 4 * halves / 3))
+    let boundary_edges = count_boundary(&ring[..halves]);
+    Ok(split_counts(MeshCounts { vertices, triangles: halves / 3, edges, boundary_edges }))
 }

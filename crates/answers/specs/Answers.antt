@@ -2,39 +2,57 @@
 use Prim.Native.Nat.{ℕ}
 use mathlib.Core.List.{List}
 use Rattle.theory.specs.Calls as promise
-use Rattle.theory.specs.Frames.{FramesAnswer}
+use Rattle.theory.specs.Frames as frames
 use Rattle.theory.specs.Index as index
 use Rattle.answers.specs.declared.answers.Answer.{Answer}
 use Rattle.answers.specs.declared.answers.OneAnswer.{OneAnswer}
 use Rattle.answers.specs.declared.answers.SeveralAnswer.{SeveralAnswer}
+use Rattle.answers.specs.declared.answers.FramesAnswer.{FramesAnswer}
 use Rattle.answers.specs.declared.answers.TextAnswer.{TextAnswer}
 
 -- The answer of split.
 abbrev pub answerOf : Answer → promise.Answer
-answerOf a = record { refusal = a .refusal; place = a .place; vertices = a .vertices; triangles = a .triangles }
-
--- The same numbers as an answer of the calls for frames.
-abbrev pub asFrames : promise.Answer → FramesAnswer
-asFrames a = record { refusal = a .refusal; place = a .place; vertices = a .vertices; triangles = a .triangles }
-
--- The answer of read frames, of write frames and of read index, which are the same struct.
-abbrev pub framesAnswerOf : Answer → FramesAnswer
-framesAnswerOf a = asFrames (answerOf a)
+answerOf a = record {
+  refusal = a .refusal;
+  place = a .place;
+  vertices = a .vertices;
+  triangles = a .triangles;
+  edges = a .edges;
+  boundaryEdges = a .«boundary_edges»;
+}
 
 -- The answer of undo one.
 abbrev pub oneAnswerOf : OneAnswer → promise.OneAnswer
 oneAnswerOf a = record {
-  common = record { refusal = a .refusal; place = a .place; vertices = a .vertices; triangles = a .triangles };
+  common = record {
+    refusal = a .refusal;
+    place = a .place;
+    vertices = a .vertices;
+    triangles = a .triangles;
+    edges = a .edges;
+    boundaryEdges = a .«boundary_edges»;
+  };
   role = a .role;
 }
 
 -- The answer of undo several.
 abbrev pub severalAnswerOf : SeveralAnswer → promise.SeveralAnswer
 severalAnswerOf a = record {
-  common = record { refusal = a .refusal; place = a .place; vertices = a .vertices; triangles = a .triangles };
+  common = record {
+    refusal = a .refusal;
+    place = a .place;
+    vertices = a .vertices;
+    triangles = a .triangles;
+    edges = a .edges;
+    boundaryEdges = a .«boundary_edges»;
+  };
   levels = a .levels;
   roles = a .roles;
 }
+
+-- The answer of read frames, of write frames and of read index.
+abbrev pub framesAnswerOf : FramesAnswer → frames.FramesAnswer
+framesAnswerOf a = record { refusal = a .refusal; place = a .place; vertices = a .vertices; triangles = a .triangles }
 
 -- The answer of write index.
 abbrev pub textAnswerOf : TextAnswer → index.TextAnswer

@@ -4,13 +4,15 @@ use mathlib.Core.Path.{_≡_}
 use mathlib.Core.List.{List, _∷_}
 use lib.ListN.{length, take, replicate}
 use Rattle.theory.specs.Limits.{mostLevels}
-use Rattle.theory.specs.Calls.{SeveralAnswer, accepted}
+use Rattle.theory.specs.Calls.{SeveralAnswer}
+use Rattle.answers.specs.declared.counts.Counts.{Counts}
 use Rattle.answers.specs.declared.levels.Levels.{Levels}
+use Rattle.answers.specs.Counts.{acceptedCounts}
 
 -- Their answer; the roles stand in their places already.
 abbrev pub answerToLevels : Levels → SeveralAnswer
 answerToLevels undone = record {
-  common = accepted (undone .vertices) (undone .triangles);
+  common = acceptedCounts (undone .left);
   levels = undone .levels;
   roles = undone .roles;
 }
@@ -27,15 +29,14 @@ pub record MoreLent (role : ℕ) (rest : Levels) : Type 0 where
   pub few : rest .levels < mostLevels
   pub places : length (rest .roles) ≡ mostLevels
 
--- No level: a mesh of F triangles on N vertices is left.
-abbrev pub noLevel : ℕ → ℕ → Levels
-noLevel N F = record { levels = 0; vertices = N; triangles = F; roles = replicate mostLevels 0 }
+-- No level: the mesh of which so much is counted is left.
+abbrev pub noLevel : Counts → Levels
+noLevel counts = record { levels = 0; left = counts; roles = replicate mostLevels 0 }
 
 -- One level more, whose role stands in front of the others.
 abbrev pub oneMore : ℕ → Levels → Levels
 oneMore role rest = record {
   levels = rest .levels + 1;
-  vertices = rest .vertices;
-  triangles = rest .triangles;
+  left = rest .left;
   roles = role ∷ take (mostLevels - 1) (rest .roles);
 }

@@ -4,8 +4,10 @@ use mathlib.Core.List.{List}
 use lib.ListN.{length, take}
 use Rattle.theory.specs.Reading.{Reading}
 use Rattle.theory.specs.Calls.{OneAnswer, Outputs, oneRefusal, oneAccepted, writtenReading}
+use Rattle.answers.specs.declared.counts.Counts.{Counts}
 use Rattle.answers.specs.declared.taken.Taken.{Taken}
 use Rattle.answers.specs.declared.taken.Taken.the-variants as taken
+use Rattle.answers.specs.Counts.{acceptedCounts, coarseCounts}
 
 -- The reading of a mesh of F triangles on N vertices that stands in the first entries of three buffers, with M vertices
 -- and n triangles.
@@ -17,6 +19,11 @@ readingIn N F M n coarse map faces =
 abbrev pub centresOf : Taken → ℕ
 centresOf (taken.Reading role M n) = n
 centresOf taken.Nothing = 0
+
+-- How many vertices it has.
+abbrev pub keptOf : Taken → ℕ
+keptOf (taken.Reading role M n) = M
+keptOf taken.Nothing = 0
 
 -- What `write_reading` is lent: the three buffers of what is taken, and room for it in the outputs.
 pub record ReadingLent (found : Taken) (N F : ℕ) (coarse map faces : List ℕ) (out : Outputs) : Type 0 where
@@ -32,7 +39,12 @@ abbrev pub leftBy : Taken → (N F : ℕ) (coarse map faces : List ℕ) → Outp
 leftBy (taken.Reading role M n) N F coarse map faces out = writtenReading (readingIn N F M n coarse map faces) out
 leftBy taken.Nothing N F coarse map faces out = out
 
--- The answer: the role and the counts of the coarse mesh, or "11: no reading in the role asked".
-abbrev pub answerTo : Taken → OneAnswer
-answerTo (taken.Reading role M n) = oneAccepted role M n
-answerTo taken.Nothing = oneRefusal 11 0
+-- The answer to a mesh of which so much is counted, in a role.
+abbrev pub answerToReading : ℕ → Counts → OneAnswer
+answerToReading role counts = oneAccepted role (acceptedCounts counts)
+
+-- The answer, where the input has N vertices and B boundary edges: the role and what is counted of the coarse mesh, or
+-- "11: no reading in the role asked".
+abbrev pub answerTo : Taken → (N B : ℕ) → OneAnswer
+answerTo (taken.Reading role M n) N B = answerToReading role (coarseCounts N B M n)
+answerTo taken.Nothing N B = oneRefusal 11 0

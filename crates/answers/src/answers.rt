@@ -1,19 +1,25 @@
 // The answers of the calls: each is made in two places only, one for refusals and one for acceptance.
+use super::counts::Counts;
 use super::levels::Levels;
 use limits::limits::Limits;
 ghost use mathlib.Core.Path.{_≡_};
 ghost use Rattle.theory.specs.Calls as promise;
+ghost use Rattle.theory.specs.Frames.{framesRefusal, framesAccepted};
 ghost use Rattle.theory.specs.Index.{textRefusal, textAccepted};
+ghost use Rattle.answers.specs.Counts.{acceptedCounts};
+ghost use Rattle.answers.specs.Taken.{answerToReading};
 ghost use Rattle.answers.specs.Levels.{answerToLevels};
-ghost use Rattle.answers.specs.Answers.{answerOf, oneAnswerOf, severalAnswerOf, textAnswerOf};
+ghost use Rattle.answers.specs.Answers.{answerOf, oneAnswerOf, severalAnswerOf, framesAnswerOf, textAnswerOf};
 
-// What a call answers: the refusal's number and place, or 0, 0 and the resulting counts.
+// What split answers: the refusal's number and place, or 0, 0 and what is counted of the resulting mesh.
 #[repr(C)]
 pub struct Answer {
     pub refusal: u64,
     pub place: u64,
     pub vertices: u64,
     pub triangles: u64,
+    pub edges: u64,
+    pub boundary_edges: u64,
 }
 
 // A refusal: every other number is 0.
@@ -25,28 +31,34 @@ pub fn refused(refusal: u64, place: u64) -> Answer
         place,
         vertices: 0,
         triangles: 0,
+        edges: 0,
+        boundary_edges: 0,
     }
 }
 
 // An acceptance.
-pub fn accepted(vertices: usize, triangles: usize) -> Answer
-    ensures { λ r. ⌜ answerOf r ≡ promise.accepted vertices triangles ⌝ }
+pub fn accepted(counts: Counts) -> Answer
+    ensures { λ r. ⌜ answerOf r ≡ acceptedCounts counts ⌝ }
 {
     Answer {
         refusal: 0,
         place: 0,
-        vertices: vertices as u64,
-        triangles: triangles as u64,
+        vertices: counts.vertices as u64,
+        triangles: counts.triangles as u64,
+        edges: counts.edges as u64,
+        boundary_edges: counts.boundary as u64,
     }
 }
 
-// What undo one answers: the same, and the role that triangle 0 has.
+// What undo one answers: the same as split, and the role that triangle 0 has.
 #[repr(C)]
 pub struct OneAnswer {
     pub refusal: u64,
     pub place: u64,
     pub vertices: u64,
     pub triangles: u64,
+    pub edges: u64,
+    pub boundary_edges: u64,
     pub role: u64,
 }
 
@@ -59,19 +71,23 @@ pub fn refused_one(refusal: u64, place: u64) -> OneAnswer
         place,
         vertices: 0,
         triangles: 0,
+        edges: 0,
+        boundary_edges: 0,
         role: 0,
     }
 }
 
 // An acceptance of undo one.
-pub fn accepted_one(vertices: usize, triangles: usize, role: usize) -> OneAnswer
-    ensures { λ r. ⌜ oneAnswerOf r ≡ promise.oneAccepted role vertices triangles ⌝ }
+pub fn accepted_one(counts: Counts, role: usize) -> OneAnswer
+    ensures { λ r. ⌜ oneAnswerOf r ≡ answerToReading role counts ⌝ }
 {
     OneAnswer {
         refusal: 0,
         place: 0,
-        vertices: vertices as u64,
-        triangles: triangles as u64,
+        vertices: counts.vertices as u64,
+        triangles: counts.triangles as u64,
+        edges: counts.edges as u64,
+        boundary_edges: counts.boundary as u64,
         role: role as u64,
     }
 }
@@ -84,6 +100,8 @@ pub struct SeveralAnswer {
     pub place: u64,
     pub vertices: u64,
     pub triangles: u64,
+    pub edges: u64,
+    pub boundary_edges: u64,
     pub levels: u64,
     pub roles: [u8; Limits::PLACES],
 }
@@ -97,6 +115,8 @@ pub fn refused_several(refusal: u64, place: u64) -> SeveralAnswer
         place,
         vertices: 0,
         triangles: 0,
+        edges: 0,
+        boundary_edges: 0,
         levels: 0,
         roles: [0; Limits::PLACES],
     }
@@ -107,17 +127,54 @@ pub fn accepted_several(undone: Levels) -> SeveralAnswer
     ensures { λ r. ⌜ severalAnswerOf r ≡ answerToLevels undone ⌝ }
 {
     let roles = undone.roles;
+    let left = undone.left;
     SeveralAnswer {
         refusal: 0,
         place: 0,
-        vertices: undone.vertices as u64,
-        triangles: undone.triangles as u64,
+        vertices: left.vertices as u64,
+        triangles: left.triangles as u64,
+        edges: left.edges as u64,
+        boundary_edges: left.boundary as u64,
         levels: undone.levels,
         roles,
     }
 }
 
-// What write index answers: the same as split, and how many bytes were written.
+// What read frames, write frames and read index answer: the refusal's number and place, or 0, 0 and the V and F that
+// were read or written.
+#[repr(C)]
+pub struct FramesAnswer {
+    pub refusal: u64,
+    pub place: u64,
+    pub vertices: u64,
+    pub triangles: u64,
+}
+
+// A refusal of these calls.
+pub fn refused_frames(refusal: u64, place: u64) -> FramesAnswer
+    ensures { λ r. ⌜ framesAnswerOf r ≡ framesRefusal refusal place ⌝ }
+{
+    FramesAnswer {
+        refusal,
+        place,
+        vertices: 0,
+        triangles: 0,
+    }
+}
+
+// An acceptance of these calls.
+pub fn accepted_frames(vertices: usize, triangles: usize) -> FramesAnswer
+    ensures { λ r. ⌜ framesAnswerOf r ≡ framesAccepted vertices triangles ⌝ }
+{
+    FramesAnswer {
+        refusal: 0,
+        place: 0,
+        vertices: vertices as u64,
+        triangles: triangles as u64,
+    }
+}
+
+// What write index answers: the same, and how many bytes were written.
 #[repr(C)]
 pub struct TextAnswer {
     pub refusal: u64,

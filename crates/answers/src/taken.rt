@@ -2,10 +2,12 @@
 use super::answers::OneAnswer;
 use super::answers::accepted_one;
 use super::answers::refused_one;
+use super::counts::coarse_counts;
 use lists::copy;
 ghost use mathlib.Core.Path.{_≡_};
+ghost use Prim.Native.Nat.{_≤_};
 ghost use Rattle.answers.specs.Answers.{oneAnswerOf, outputs};
-ghost use Rattle.answers.specs.Taken.{ReadingLent, leftBy, answerTo};
+ghost use Rattle.answers.specs.Taken.{ReadingLent, leftBy, keptOf, answerTo};
 
 // A role that has a reading, with the counts of its coarse mesh; or nothing, where there is none.
 pub enum Taken {
@@ -49,17 +51,19 @@ pub fn write_reading(
     copy(faces, triangle_map, triangles);
 }
 
-// The answer to what is taken: the role with the counts of the coarse mesh, or 11.
-pub fn answer_taken(taken: Taken) -> OneAnswer
-    ensures { λ r. ⌜ oneAnswerOf r ≡ answerTo taken ⌝ }
+// The answer to what is taken from an input of so many vertices and boundary edges: the role, with what is counted of
+// the coarse mesh, or 11.
+pub fn answer_taken(taken: Taken, vertices: usize, boundary: usize) -> OneAnswer
+    requires { ⌜ keptOf taken ≤ vertices ⌝ }
+    ensures { λ r. ⌜ oneAnswerOf r ≡ answerTo taken vertices boundary ⌝ }
 {
     let Taken::Reading {
         role,
-        vertices,
-        triangles,
+        vertices: kept,
+        triangles: centres,
     } = taken
     else {
         return refused_one(11, 0);
     };
-    accepted_one(vertices, triangles, role)
+    accepted_one(coarse_counts(vertices, boundary, kept, centres), role)
 }

@@ -3,6 +3,9 @@
 use answers::answers::Answer;
 use answers::answers::accepted;
 use answers::answers::refused;
+use answers::counts::Counts;
+use answers::counts::split_counts;
+use mesh_counts::count_boundary;
 use mesh_judge::judge;
 use split::number_edges;
 use split::write_fours;
@@ -10,9 +13,9 @@ ghost use mathlib.Core.List.{[], _∷_};
 ghost use Rattle.answers.specs.Answers.{answerOf};
 ghost use Rattle.calls_split.specs.Splitting.{SplitLent, SplitsMesh};
 
-// Gives the number that 2 to 5 came to, or judges 6 to 10 and splits. It leaves in the work buffers what it pleases,
-// and promises what split promises for when they are cleared: `ring` holds the rings of the edges, and `work1` the
-// vertices on them.
+// Gives the number that 2 to 5 came to, or judges 6 to 10 and splits. What is counted of the splitting follows from what
+// is counted of the mesh. It leaves in the work buffers what it pleases, and promises what split promises for when they
+// are cleared: `ring` holds the rings of the edges, and `work1` the vertices on them.
 pub fn split_mesh(
     number: u64,
     vertices: u64,
@@ -41,5 +44,11 @@ pub fn split_mesh(
     }
     let edges = number_edges(vertices, 3 * triangles, ring, work1);
     write_fours(list, triangles, work1, out);
-    accepted(vertices + edges, 4 * triangles)
+    let boundary = count_boundary(ring, 3 * triangles);
+    accepted(split_counts(Counts {
+        vertices,
+        triangles,
+        edges,
+        boundary,
+    }))
 }

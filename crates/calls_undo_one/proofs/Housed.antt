@@ -1,6 +1,6 @@
 -- The list that an undo is given and the room for it in the nine work buffers, which both undo calls have: from rows 1
 -- to 5 that are passed, by way of `judge`, to a mesh that can be undone.
-use Prim.Native.Nat.{ℕ, _≤_}
+use Prim.Native.Nat.{ℕ, _*_, _≤_}
 use native.Mathlib.Omega.{arith}
 use mathlib.Core.Path.{_≡_}
 use mathlib.Core.List.{List, [], _∷_, _++_, map}
@@ -12,6 +12,7 @@ use Rattle.theory.specs.Calls.{workRooms, undoNumberRules}
 use Rattle.theory.proofs.Refusals.{asked-known, Sized, sized, not-given, Fits, none-short-fits, passed-proper}
 use Rattle.limits.specs.Judged.{Judged}
 use Rattle.limits.proofs.Judgement.{judged-passed}
+use Rattle.mesh_counts.specs.Counts.{CountLent}
 use Rattle.mesh_judge.specs.Judging.{JudgeLent}
 use Rattle.undo_role.specs.Buffers.{Buffers, Rooms}
 use Rattle.undo_role.specs.Tried.{Undoable}
@@ -85,6 +86,10 @@ module _ {N : ℕ} {T : List ℕ} {b : Buffers} (H : Housed N T b) where
     work3Room = H .rooms .numbers;
     work4Room = H .rooms .map;
   }
+
+  -- what the counting of edges over their rings requires
+  pub countable : CountLent (3 * triangles T) (b .ring)
+  countable = record { small = omega (arith, H .sizes .few); room = omega (arith, H .rooms .ring .room) }
 
   -- past 6 to 10 the mesh can be undone
   pub undoable : Passed (meshRules N T) → Undoable N (triangles T) T

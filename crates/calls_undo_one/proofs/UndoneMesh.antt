@@ -1,5 +1,5 @@
--- The work of undo one: what `judge`, `cover`, `chosen_role` and `write_reading` are lent, each from what the call is
--- lent and from those before, and what the call comes to.
+-- The work of undo one: what `judge`, `cover`, `chosen_role`, `write_reading` and `answer_taken` are lent, each from
+-- what the call is lent and from those before, and what the call comes to.
 use Prim.Native.Nat.{ℕ, _*_, _%_, _≤_}
 use native.Mathlib.Omega.{arith}
 use mathlib.Core.Path.{_≡_, refl, ap, _∙_}
@@ -9,19 +9,22 @@ use lib.ListN.{length, take, length-take}
 use lib.Seq.{length-take-le}
 use Rattle.theory.specs.Limits.{anyRole}
 use Rattle.theory.specs.Mesh.{triangles, Same}
-use Rattle.theory.specs.Splitting.{firstOn}
+use Rattle.theory.specs.Splitting.{firstOn, boundaryEdges}
 use Rattle.theory.specs.Reading.{Returned}
 use Rattle.theory.specs.Choice.{NoneChosen}
 use Rattle.theory.specs.Refusals.{noReading, meshRules, Passed, Refused}
-use Rattle.theory.specs.Calls.{OneAnswer, Outputs, oneRefusal, oneAccepted, refuses, accepts}
+use Rattle.theory.specs.Calls.{OneAnswer, Outputs, oneRefusal, refuses, accepts}
 use Rattle.theory.specs.Calls.{lentToUndoOne, undoOneSizeRules, undoOneMeshRules}
 use Rattle.theory.proofs.Refusals.{at-place-0, passed-both, refused-by-front, refused-by-back}
 use Rattle.theory.proofs.Determined.{chosen-not-refused, quarter}
 use Rattle.theory.proofs.Results.{none-chosen}
 use Rattle.limits.proofs.Judgement.{judged-refused}
 use Rattle.answers.specs.declared.taken.Taken.{Taken}
-use Rattle.answers.specs.Taken.{readingIn, centresOf, ReadingLent, leftBy, answerTo}
+use Rattle.answers.specs.Counts.{coarseCounts}
+use Rattle.answers.specs.Taken.{readingIn, centresOf, keptOf, ReadingLent, leftBy, answerToReading, answerTo}
+use Rattle.answers.proofs.Counted.{kept-at-most, coarse-counted}
 use Rattle.mesh_rings.specs.Ring.{RingBy}
+use Rattle.mesh_counts.specs.Counts.{BoundaryCounted}
 use Rattle.mesh_judge.specs.Judging.{MeshJudged}
 use Rattle.undo_cover.specs.Cover.{CoverLent, CoverMade}
 use Rattle.undo_role.specs.Buffers.{Buffers, Rooms}
@@ -52,6 +55,11 @@ module _ {number N : ℕ} {T : List ℕ} {asked : ℕ} {out : Outputs} {b₀ : B
   -- there is room for the list in the work buffers
   pub lent-housed : Housed N T b₀
   lent-housed = housed (sizes .sizes) (sizes .fits .1 .1 .1)
+
+  -- what is counted over the mesh's rings are its boundary edges
+  pub boundary-told : {ring : List ℕ} {boundary : ℕ} → BoundaryCounted (3 * triangles T) ring boundary
+      → RingBy (3 * triangles T) (firstOn T) ring → boundary ≡ boundaryEdges T
+  boundary-told B ringed = B .total T (omega (arith, sizes .sizes .threes)) ringed
 
   -- ---- what is refused
 
@@ -131,20 +139,28 @@ module _ {number N : ℕ} {T : List ℕ} {asked : ℕ} {out : Outputs} {b₀ : B
     writable (found {n = n} _ R) = fitting _ (omega (arith, quartered n R))
     writable (none _) = fitting _ (omega arith)
 
+    -- what `answer_taken` requires after it: no more vertices are kept than there are
+    pub answerable : {reading : Taken} → ChosenTried asked N (triangles T) T (b .coarse) (b .map) (b .faces) reading
+        → keptOf reading ≤ N
+    answerable (found _ R) = kept-at-most (mesh .proper) (R .is)
+    answerable (none _) = omega arith
+
     -- what is written and answered is what the call does
-    pub concluding : {reading : Taken} {answer : OneAnswer} {out′ : Outputs}
+    pub concluding : {reading : Taken} {boundary : ℕ} {answer : OneAnswer} {out′ : Outputs}
         → ChosenTried asked N (triangles T) T (b .coarse) (b .map) (b .faces) reading
-        → out′ ≡ leftBy reading N (triangles T) (b .coarse) (b .map) (b .faces) out → answer ≡ answerTo reading
-        → UndoesMesh N T asked out b₀ answer out′
+        → out′ ≡ leftBy reading N (triangles T) (b .coarse) (b .map) (b .faces) out
+        → boundary ≡ boundaryEdges T → answer ≡ answerTo reading N boundary → UndoesMesh N T asked out b₀ answer out′
     unfolding Passed
-    concluding (none refuted) wrote said = without passed refuted said wrote
-    concluding (found {role} {M} {n} chosen R) wrote said =
+    concluding (none refuted) wrote counted said = without passed refuted said wrote
+    concluding (found {role} {M} {n} chosen R) wrote counted said =
         let long : length (take (3 * n) (b .coarse)) ≡ 3 * n =
         length-take-le _ _ (omega (arith, quartered n R, rooms .coarse .room)) in
-        let size : n ≡ triangles (take (3 * n) (b .coarse)) = omega arith in
         accepts role (readingIn N (triangles T) M n (b .coarse) (b .map) (b .faces))
         (passed-both (undoOneSizeRules N (length T) asked (lentToUndoOne N T out (works b₀)))
         (undoOneMeshRules N T asked) (sizes .passed)
         (passed-both (meshRules N T) (noReading N T asked ∷ []) passed
         ((λ place given. chosen-not-refused chosen (given .0)), tt)))
-        chosen R (said ∙ ap (oneAccepted role M) size) wrote refl
+        chosen R
+        (said ∙ ap (answerToReading role)
+        (ap (λ (B : ℕ). coarseCounts N B M n) counted ∙ coarse-counted (mesh .proper) (R .is) (omega arith)))
+        wrote refl

@@ -4,6 +4,7 @@ use answers::answers::OneAnswer;
 use answers::answers::refused_one;
 use answers::taken::answer_taken;
 use answers::taken::write_reading;
+use mesh_counts::count_boundary;
 use mesh_judge::judge;
 use undo_cover::cover::cover;
 use undo_roles::chosen_role;
@@ -11,8 +12,9 @@ ghost use Rattle.answers.specs.Answers.{oneAnswerOf, outputs};
 ghost use Rattle.undo_role.specs.Buffers.{buffers};
 ghost use Rattle.calls_undo_one.specs.Undoing.{UndoLent, UndoesMesh};
 
-// Gives the number that 1 to 5 came to; or judges 6 to 10, makes the covering mesh, takes the role asked, and gives 11 or
-// writes the reading. No role has one where the triangles are no multiple of four. It leaves in the work buffers what it
+// Gives the number that 1 to 5 came to; or judges 6 to 10, makes the covering mesh, takes the role asked, and gives 11
+// or writes the reading. No role has one where the triangles are no multiple of four. The boundary edges are counted
+// while the mesh's rings are there; those of the coarse mesh follow from them. It leaves in the work buffers what it
 // pleases, and promises what undo one promises for when they are cleared. They hold the mesh's rings (`ring`) while it
 // is judged, then the covering mesh with its rings (`other`, `rows`, `ring`), then what a role makes (see `try_role`).
 pub fn undo_mesh(
@@ -56,6 +58,7 @@ pub fn undo_mesh(
     if triangles % 4 != 0 {
         return refused_one(11, 0);
     }
+    let boundary = count_boundary(ring, 3 * triangles);
     cover(
         vertices,
         triangles,
@@ -94,5 +97,5 @@ pub fn undo_mesh(
         vertex_map,
         triangle_map,
     );
-    answer_taken(taken)
+    answer_taken(taken, vertices, boundary)
 }

@@ -16,8 +16,11 @@ use Rattle.theory.proofs.Refusals.{passed-both, refused-by-front, refused-by-ba
 use Rattle.lists.proofs.Lists.{take-copied}
 use Rattle.limits.proofs.Judgement.{judged-refused}
 use Rattle.answers.specs.declared.levels.Levels.{Levels}
+use Rattle.answers.specs.Counts.{acceptedCounts}
 use Rattle.answers.specs.Levels.{answerToLevels}
+use Rattle.answers.proofs.Counted.{counts-same}
 use Rattle.mesh_rings.specs.Ring.{RingBy}
+use Rattle.mesh_counts.specs.Counts.{EdgesCounted, BoundaryCounted}
 use Rattle.mesh_judge.specs.Judging.{MeshJudged}
 use Rattle.undo_role.specs.Buffers.{Buffers}
 use Rattle.undo_role.proofs.Rooms.{SameLengths, rooms-kept}
@@ -77,11 +80,15 @@ module _ {number N : ℕ} {T : List ℕ} {asked : ℕ} {out current : List ℕ} 
         ∙ ap (λ (n : ℕ). take n T) (sym listed) ∙ take-length T
 
     -- what `undo_levels` requires
-    pub levels-lent : {b : Buffers} → SameLengths b₀ b → length current′ ≡ length current
-        → RingBy (3 * triangles T) (firstOn T) (b .ring) → LevelsLent asked N (triangles T) current′ out b
-    levels-lent K kept ringed = record {
+    pub levels-lent : {edges boundary : ℕ} {b : Buffers} → SameLengths b₀ b → length current′ ≡ length current
+        → RingBy (3 * triangles T) (firstOn T) (b .ring) → EdgesCounted (3 * triangles T) (b .ring) edges
+        → BoundaryCounted (3 * triangles T) (b .ring) boundary
+        → LevelsLent asked (record { vertices = N; triangles = triangles T; edges = edges; boundary = boundary })
+        current′ out b
+    levels-lent K kept ringed E B = record {
       few = sizes .known;
       level = rw copied-list (record { mesh = undoable lent-housed passed; ringed = ringed });
+      counted = rw copied-list (counts-same refl refl (E .total T listed ringed) (B .total T listed ringed));
       listRoom = record { room = omega (arith, sizes .fits .1 .0, kept) };
       outRoom = sizes .fits .0;
       rooms = rooms-kept (omega arith) (lent-housed .rooms) K;
@@ -92,7 +99,13 @@ module _ {number N : ℕ} {T : List ℕ} {asked : ℕ} {out current : List ℕ} 
         → LevelsUndone asked N (take (3 * triangles T) current′) out out′ undone → answer ≡ answerToLevels undone
         → UndoesLevels N T asked out current b₀ answer out′
     accepting {undone} U said =
-        accepts (undone .levels) (undone .vertices) (U .roles) (U .mesh)
+        accepts (undone .levels) (undone .left .vertices) (U .roles) (U .mesh)
         (passed-both (undoSeveralSizeRules N (length T) asked (lentToUndoSeveral N T out (works current b₀)))
         (meshRules N T) (sizes .passed) passed)
-        (rw copied-list at (U .several)) (rw (U .count, sym (U .places)) said) (U .left) refl
+        (rw copied-list at (U .several))
+        (said ∙ λ i. record {
+          common = acceptedCounts (U .counted i);
+          levels = undone .levels;
+          roles = U .places i;
+        })
+        (U .left) refl

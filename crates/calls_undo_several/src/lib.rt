@@ -3,15 +3,19 @@
 use answers::answers::SeveralAnswer;
 use answers::answers::accepted_several;
 use answers::answers::refused_several;
+use answers::counts::Counts;
 use lists::copy;
+use mesh_counts::count_boundary;
+use mesh_counts::count_edges;
 use mesh_judge::judge;
 use undo_levels::undo_levels;
 ghost use Rattle.answers.specs.Answers.{severalAnswerOf};
 ghost use Rattle.undo_role.specs.Buffers.{buffers};
 ghost use Rattle.calls_undo_several.specs.UndoingSeveral.{SeveralLent, UndoesLevels};
 
-// Gives the number that 1 to 5 came to, or judges 6 to 10 and undoes the levels, from a copy of the list in `current`. It
-// leaves in the work buffers what it pleases, and promises what undo several promises for when they are cleared.
+// Gives the number that 1 to 5 came to; or judges 6 to 10, counts the edges by their rings, and undoes the levels, from
+// a copy of the list in `current`. It leaves in the work buffers what it pleases, and promises what undo several promises
+// for when they are cleared.
 pub fn undo_mesh_levels(
     number: u64,
     vertices: u64,
@@ -46,11 +50,17 @@ pub fn undo_mesh_levels(
     if verdict.number != 0 {
         return refused_several(verdict.number, verdict.place);
     }
+    let edges = count_edges(ring, 3 * triangles);
+    let boundary = count_boundary(ring, 3 * triangles);
     copy(list, current, 3 * triangles);
     let undone = undo_levels(
         asked,
-        vertices,
-        triangles,
+        Counts {
+            vertices,
+            triangles,
+            edges,
+            boundary,
+        },
         current,
         out,
         other,

@@ -1,5 +1,5 @@
 // The calls read index and write index.
-use answers::answers::Answer;
+use answers::answers::FramesAnswer;
 use answers::answers::TextAnswer;
 use index_read::call::read_index;
 use index_write::call::write_index;
@@ -10,7 +10,7 @@ ghost use Rattle.answers.specs.Answers.{framesAnswerOf, textAnswerOf};
 // three corners each, in the first entries of `out`. Its corners are not judged against `vertices`. Refusals 14, 4 and
 // 5, in this order.
 #[no_mangle]
-pub extern "C" fn flatcarol_read_index(vertices: u64, text: &[u8], out: &mut [u16]) -> Answer
+pub extern "C" fn flatcarol_read_index(vertices: u64, text: &[u8], out: &mut [u16]) -> FramesAnswer
     ensures { λ r. ⌜ ReadsIndex vertices (now (text .entry)) (now (out .entry)) (framesAnswerOf r)
         (now (out .exit)) ⌝ }
 {

@@ -1,10 +1,10 @@
 -- Laws of `count` and `firstFrom`.
 use Prim.Native.Nat.{ℕ, zero, suc, _+_, _≤_, _<_}
-use native.Mathlib.Nat.{add-zero, not-suc-le-zero}
+use native.Mathlib.Nat.{add-zero, add-suc, not-suc-le-zero}
 use native.Mathlib.Numerals.{add-one}
 use native.Mathlib.Decide.{ℕ-discrete, decLt, le-ind}
 use native.Mathlib.Omega.{arith}
-use mathlib.Core.Path.{_≡_, refl}
+use mathlib.Core.Path.{_≡_, refl, sym, ap, ap₂, _∙_}
 use mathlib.Core.Bool.{Bool, true, false}
 use lib.Dec.{T}
 use Rattle.theory.specs.Counting.{bit, count, firstFrom}
@@ -18,7 +18,7 @@ bit-le true = omega arith
 bit-le false = omega arith
 
 -- a test that passes counts for one
-bit-passes : (b : Bool) → T b → bit b ≡ 1
+pub bit-passes : (b : Bool) → T b → bit b ≡ 1
 bit-passes true t = refl
 bit-passes false t = absurd t
 
@@ -75,6 +75,49 @@ count-hit test (suc n) y l = go (decLt y (count test n)) (count-hit test n y)
     go (yes k) earlier = wider (earlier k)
     go (no k) earlier =
         (n, omega arith, passes-bit (test n) (omega arith), omega (arith, bit-le (test n)))
+
+-- where one is counted, what passes is one number
+pub count-one : (test : ℕ → Bool) (n g h : ℕ) → count test n ≡ 1 → g < n → h < n → T (test g) → T (test h) → g ≡ h
+count-one test n g h e a b s t =
+    count-injective test g h s t (omega (arith, count-grows test g n a s, count-grows test h n b t))
+
+-- and where one number alone passes, one is counted
+pub count-only : (test : ℕ → Bool) (n h : ℕ) → h < n → T (test h) → ((g : ℕ) → g < n → T (test g) → g ≡ h)
+    → count test n ≡ 1
+count-only test n h l t only = go (decLt 1 (count test n))
+  where
+    two : (i : ℕ) × (i < n) × T (test i) × (count test i ≡ 0) → (j : ℕ) × (j < n) × T (test j) × (count test j ≡ 1) → ⊥
+    two (i, a, s, e) (j, b, u, f) = omega (arith, ap (count test) (only i a s ∙ sym (only j b u)))
+
+    go : Dec (1 < count test n) → count test n ≡ 1
+    go (yes m) = absurd (two (count-hit test n 0 (omega arith)) (count-hit test n 1 m))
+    go (no m) = omega (arith, count-grows test h n l t)
+
+-- of n numbers and k more, those are counted that are counted of the n and of the k
+pub count-more : (test : ℕ → Bool) (n k : ℕ) → count test (n + k) ≡ count test n + count (λ i. test (n + i)) k
+unfolding count
+count-more test n zero = rw (add-zero n, add-zero (count test n))
+count-more test n (suc k) = rw (add-suc n k) (omega (arith, count-more test n k))
+
+-- tests that pass together count alike
+pub bit-same : (a b : Bool) → (T a → T b) → (T b → T a) → bit a ≡ bit b
+bit-same true b f g = sym (bit-passes b (f tt))
+bit-same false true f g = absurd (g tt)
+bit-same false false f g = refl
+
+-- tests that pass the same numbers count alike
+pub count-alike : (f g : ℕ → Bool) (n : ℕ) → ((i : ℕ) → i < n → T (f i) → T (g i))
+    → ((i : ℕ) → i < n → T (g i) → T (f i)) → count f n ≡ count g n
+unfolding count
+count-alike f g zero there back = refl
+count-alike f g (suc n) there back = ap₂ _+_
+    (count-alike f g n (λ i l. there i (omega arith)) (λ i l. back i (omega arith)))
+    (bit-same (f n) (g n) (there n (omega arith)) (back n (omega arith)))
+
+-- a test that does not pass counts for nothing
+pub bit-fails : (b : Bool) → (T b → ⊥) → bit b ≡ 0
+bit-fails true f = absurd (f tt)
+bit-fails false f = refl
 
 -- the count depends only on the tests below
 pub count-cong : (f g : ℕ → Bool) (n : ℕ) → ((i : ℕ) → i < n → f i ≡ g i) → count f n ≡ count g n

@@ -10,7 +10,7 @@ use Rattle.theory.specs.Mesh.{triangles, Same}
 use Rattle.theory.specs.Splitting.{edges, split}
 use Rattle.theory.specs.Reading.{Reading, ReadingIn, Returned}
 use Rattle.theory.specs.Choice.{LeastRole, Chosen, NoneChosen}
-use Rattle.theory.specs.Calls.{Answer, OneAnswer, Outputs, accepted, oneRefusal, oneAccepted, written, zeros}
+use Rattle.theory.specs.Calls.{Answer, OneAnswer, Outputs, acceptedMesh, oneRefusal, written, zeros}
 use Rattle.theory.specs.Calls.{lentToSplit, Splits, lentToUndoOne, writtenReading, acceptedReading, UndoesOne}
 use Rattle.theory.specs.Demands.{Enough, Within, SameApart, foundMesh, foundReading, SplitsBack, Exactly}
 use Rattle.theory.proofs.Splitting.{edges-le, split-triangles}
@@ -19,8 +19,8 @@ use Rattle.theory.proofs.SplitProper.{split-proper, vertices-le, itself
 use Rattle.theory.proofs.Unique.{coarse-matched}
 use Rattle.theory.proofs.Determined.{returned-in}
 use Rattle.theory.proofs.Determined.{quarter, splits-determined, undoes-one-determined}
-use Rattle.theory.proofs.Results.{reading-within, split-accepts, split-accepted, reading-splits, one-accepts}
-use Rattle.theory.proofs.Results.{one-accepted-found, outcome, outcome-exactly}
+use Rattle.theory.proofs.Results.{reading-within, split-accepts, SplitAccepted, split-accepted, reading-splits}
+use Rattle.theory.proofs.Results.{one-accepts, one-accepted-found, outcome, outcome-exactly}
 use Rattle.theory.proofs.Results.{chosen-named, none-named, chosen-least, none-least}
 use Rattle.theory.proofs.Results.{chosen-accepted, none-refused}
 
@@ -40,13 +40,13 @@ module _ {N : ℕ} {T : List ℕ} {asked : ℕ} {out out′ : Outputs} {works wo
   -- it has a quarter of the triangles: undo that does nothing breaks its promise
   pub returned-quarter : triangles T ≡ 4 * answer .common .triangles
   returned-quarter = quarter (one-accepted-found U none .returned .is)
-      ∙ ap (λ (n : ℕ). 4 * n) (sym (one-accepted-found U none .counted))
+      ∙ ap (λ (a : Answer). 4 * a .triangles) (sym (one-accepted-found U none .counted))
 
   -- "any mesh that undo one returns is accepted by split with room enough lent"
   pub returned-accepted : {o : List ℕ} {ws : List (List ℕ)}
       → Enough (lentToSplit (returned .vertices) (returned .mesh) o ws)
       → Splits (returned .vertices) (returned .mesh) o ws
-      (accepted (returned .vertices + edges (returned .mesh)) (4 * triangles (returned .mesh)))
+      (acceptedMesh (returned .vertices + edges (returned .mesh)) (split (returned .vertices) (returned .mesh)))
       (written (split (returned .vertices) (returned .mesh)) o) (map zeros ws)
   returned-accepted enough = split-accepts returned-within enough
 
@@ -63,7 +63,7 @@ module _ {N : ℕ} {T : List ℕ} {asked : ℕ} {out out′ : Outputs} {works wo
 -- the mesh and the maps; the rest stays.
 pub record ComesBack (N : ℕ) (T : List ℕ) (out : Outputs) (works : List (List ℕ)) (answer : OneAnswer) (out′ : Outputs)
     (works′ : List (List ℕ)) : Type 0 where
-  pub answers : answer ≡ oneAccepted 0 N (triangles T)
+  pub answers : answer ≡ acceptedReading 0 (itself N T)
   pub writes : out′ ≡ writtenReading (itself N T) out
   pub clears : works′ ≡ map zeros works
 
@@ -79,7 +79,7 @@ split-within {N} {T} W = record {
 -- "a proper mesh within split's limits, split, and undone asking 0 with room enough lent, is accepted"
 pub split-undone : {N : ℕ} {T : List ℕ} {out : Outputs} {works : List (List ℕ)} → Within mostSplitTriangles N T
     → Enough (lentToUndoOne (N + edges T) (split N T) out works)
-    → UndoesOne (N + edges T) (split N T) 0 out works (oneAccepted 0 N (triangles T))
+    → UndoesOne (N + edges T) (split N T) 0 out works (acceptedReading 0 (itself N T))
     (writtenReading (itself N T) out) (map zeros works)
 split-undone {N} {T} W enough = one-accepts (split-within W) enough (Chosen.named (omega arith) (returned-in R)) R
   where
@@ -93,7 +93,7 @@ pub split-comes-back : {N : ℕ} {T : List ℕ} {out out′ : Outputs} {works wo
 split-comes-back {N} {T} {out} {out′} {works} {works′} {answer} W enough U =
     go (undoes-one-determined U (split-undone W enough))
   where
-    go : (answer ≡ oneAccepted 0 N (triangles T)) × (out′ ≡ writtenReading (itself N T) out)
+    go : (answer ≡ acceptedReading 0 (itself N T)) × (out′ ≡ writtenReading (itself N T) out)
         × (works′ ≡ map zeros works) → ComesBack N T out works answer out′ works′
     go (e, f, g) = record { answers = e; writes = f; clears = g }
 
@@ -106,10 +106,10 @@ pub round-trip : {N : ℕ} {T o o′ : List ℕ} {ws ws′ : List (List ℕ)} {a
 round-trip {N} {T} {o′ = o′} {a = a} {out} {out′} {works} {works′} {answer} S none enough U =
     go (split-accepted S none)
   where
-    go : Within mostSplitTriangles N T × (a .vertices ≡ N + edges T) × (foundMesh a o′ ≡ split N T)
-        → ComesBack N T out works answer out′ works′
-    go (W, e, f) = split-comes-back W (subst₂ (λ (M : ℕ) (C : List ℕ). Enough (lentToUndoOne M C out works)) e f enough)
-        (subst₂ (λ (M : ℕ) (C : List ℕ). UndoesOne M C 0 out works answer out′ works′) e f U)
+    go : SplitAccepted N T a o′ → ComesBack N T out works answer out′ works′
+    go A = split-comes-back (A .within)
+        (subst₂ (λ (M : ℕ) (C : List ℕ). Enough (lentToUndoOne M C out works)) (A .vertices) (A .found) enough)
+        (subst₂ (λ (M : ℕ) (C : List ℕ). UndoesOne M C 0 out works answer out′ works′) (A .vertices) (A .found) U)
 
 -- ---- demand 3: undo one accepts exactly what has a reading
 

@@ -12,7 +12,7 @@ use Rattle.theory.specs.Choice.{LeastRole, Chosen, named, least, NoneCho
 use Rattle.theory.specs.Choice.{Several, reached, stopped, undone}
 use Rattle.theory.specs.Refusals.{Room, notThrees, meshRules, noReading, Passed}
 use Rattle.theory.specs.Calls.{Answer, OneAnswer, SeveralAnswer, Outputs, refusal, oneRefusal, severalRefusal}
-use Rattle.theory.specs.Calls.{severalAccepted, written, writtenReading, acceptedReading}
+use Rattle.theory.specs.Calls.{acceptedLevels, written, writtenReading, acceptedReading}
 use Rattle.theory.specs.Calls.{Splits, undoOneRules, UndoesOne, UndoesSeveral}
 use Rattle.theory.specs.Frames.{FramesAnswer, framesRefusal, framesAccepted, corners, LinesSay}
 use Rattle.theory.specs.Frames.{ReadsFrames, WritesFrames}
@@ -156,7 +156,7 @@ undoes-several-determined {N} {T} {asked} {out} (UndoesSeveral.accepts l M ρs C
     (e ∙ ap answered same ∙ sym e′, f ∙ ap (λ y. written (y .mesh) out) same ∙ sym f′, g ∙ sym g′)
   where
     answered : Yield → SeveralAnswer
-    answered y = severalAccepted (y .levels) (y .roles) (y .vertices) (triangles (y .mesh))
+    answered y = acceptedLevels (y .levels) (y .roles) (y .vertices) (y .mesh)
 
 -- lines say one mesh
 pub lines-say-one : {bytes T S : List ℕ} {N M : ℕ} → LinesSay bytes N T → LinesSay bytes M S → (N ≡ M) × (T ≡ S)

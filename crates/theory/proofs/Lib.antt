@@ -14,6 +14,7 @@ pub mod EdgeKinds
 pub mod Refusals
 pub mod Splitting
 pub mod Heart
+pub mod BoundaryEdges
 pub mod SplitEdges
 pub mod Carried
 pub mod Centres
@@ -21,12 +22,14 @@ pub mod BetweenTwo
 pub mod Rows
 pub mod Lawful
 pub mod SplitProper
+pub mod EdgeCounts
 pub mod Unique
 pub mod Canonical
 pub mod Determined
 pub mod Results
 pub mod Demands
 pub mod SeveralDemands
+pub mod CountDemands
 pub mod Tiles
 pub mod Built
 pub mod Coarse

@@ -11,7 +11,7 @@ use lib.ListN.{length}
 use Rattle.theory.specs.Counting.{count}
 use Rattle.theory.specs.Mesh.{at}
 use Rattle.theory.specs.Reading.{Match}
-use Rattle.theory.proofs.Finite.{neither-less, tabulate, tabulate-length, tabulate-at, match-size}
+use Rattle.theory.proofs.Finite.{neither-less, tabulate, tabulate-length, tabulate-at, injective-le, match-size}
 use Rattle.theory.proofs.Counting.{count-grows, count-injective, count-hit}
 
 -- ---- lists of chosen numbers
@@ -35,6 +35,16 @@ listed {Q} n some = (
 
     chosen : ℕ → ℕ
     chosen y = pick y (decLt y n)
+
+-- where each number below m has some number below n, and no two have the same, m is at most n
+pub related-le : {R : ℕ → ℕ → Type 0} (m n : ℕ) → ((y : ℕ) → y < m → (x : ℕ) × (x < n) × R y x)
+    → ((y z x : ℕ) → y < m → z < m → R y x → R z x → y ≡ z) → m ≤ n
+related-le {R} m n some apart =
+    go (listed {Q = λ y x. (x < n) × R y x} m (λ y l. (some y l .0, (some y l .1, some y l .2))))
+  where
+    go : (f : List ℕ) × (length f ≡ m) × ((y : ℕ) → y < m → (at f y < n) × R y (at f y)) → m ≤ n
+    go (f, _, each) = injective-le (at f) m n (λ y l. each y l .0)
+        (λ y z k l e. apart y z (at f z) k l (subst (R y) e (each y k .1)) (each z l .1))
 
 -- R sends the numbers below m one to one onto the numbers below n
 pub record OneToOne (R : ℕ → ℕ → Type 0) (m n : ℕ) : Type 0 where

@@ -6,7 +6,8 @@ use mathlib.Core.List.{List, [], _∷_}
 use lib.ListN.{length, length-map}
 use Rattle.theory.specs.Mesh.{at, triangles, On, Same, OtherwiseProper}
 use Rattle.theory.specs.Reading.{Agreement, Match, Matched, renamed}
-use Rattle.theory.proofs.Finite.{map-at, identity, identity-at, composed, composed-at}
+use Rattle.theory.proofs.Finite.{map-at, identity, identity-at, inverse, inverse-match, inverse-at}
+use Rattle.theory.proofs.Finite.{at-inverse, composed, composed-at}
 use Rattle.theory.proofs.Numbering.{Numbers, Renumbers}
 use Rattle.theory.proofs.Mesh.{on-vertex}
 
@@ -72,6 +73,36 @@ module _ {f g T S : List ℕ} {N M : ℕ} (G : Matched Same f g N T M S) where
     where
       go : (u : ℕ) × On T k u × (at f u ≡ at f v) → On T k v
       go (u, p, e) = subst (On T k) (G .vertices .apart u v (on-vertex P p) b e) p
+
+-- the match the other way round
+pub matched-inverse : {f g T S : List ℕ} {N M : ℕ} → OtherwiseProper N T → (G : Matched Same f g N T M S)
+    → Matched Same (inverse (G .vertices)) (inverse (G .faces)) M S N T
+matched-inverse {f} {g} {T} {S} {N} {M} P G = record {
+  vertices = inverse-match (G .vertices);
+  faces = inverse-match (G .faces);
+  agreed = λ l b. from l b (inverse-match (G .faces) .below l b) (at-inverse (G .faces) l b);
+}
+  where
+    -- a vertex of T that was renamed comes back
+    home : {k v : ℕ} → On T k v → at (inverse (G .vertices)) (at f v) ≡ v
+    home o = inverse-at (G .vertices) _ (on-vertex P o)
+
+    from : (l : ℕ) → l < triangles S → at (inverse (G .faces)) l < triangles T → at g (at (inverse (G .faces)) l) ≡ l
+        → Same (renamed (inverse (G .vertices)) S) l T (at (inverse (G .faces)) l)
+    from l b c e = record { there = λ v o. there v (renamed-on (inverse (G .vertices)) o); back = back }
+      where
+        k : ℕ
+        k = at (inverse (G .faces)) l
+
+        there : (v : ℕ) → (w : ℕ) × On S l w × (at (inverse (G .vertices)) w ≡ v) → On T k v
+        there v (w, o, q) = go (match-on G c (subst (λ (l : ℕ). On S l w) (sym e) o))
+          where
+            go : (u : ℕ) × On T k u × (at f u ≡ w) → On T k v
+            go (u, p, r) = subst (On T k) (sym (home p) ∙ ap (at (inverse (G .vertices))) r ∙ q) p
+
+        back : (v : ℕ) → On T k v → On (renamed (inverse (G .vertices)) S) l v
+        back v o = subst (On (renamed (inverse (G .vertices)) S) l) (home o)
+            (on-renamed (inverse (G .vertices)) (subst (λ (l : ℕ). On S l (at f v)) e (on-match G c o)))
 
 -- meshes are matched by renumbering their triangles, where each triangle agrees with the one with its new number
 pub renumbers-matched : {agree : Agreement} {K : ℕ → Type 0} {φ ψ : ℕ → ℕ} {f T S : List ℕ} {N M n : ℕ} → Match f N M

@@ -10,15 +10,15 @@ use mathlib.Core.List.{List, [], _∷_, _++_, map}
 use lib.ListN.{length, take, drop, replicate}
 use lib.Seq.{take-at, take-take}
 use Rattle.theory.specs.Limits.{mostTriangles, mostSplitTriangles, anyRole, mostLevels}
-use Rattle.theory.specs.Mesh.{triangles, Same}
-use Rattle.theory.specs.Splitting.{edges, split}
+use Rattle.theory.specs.Mesh.{triangles, Same, Proper}
+use Rattle.theory.specs.Splitting.{edges, boundaryEdges, split}
 use Rattle.theory.specs.Reading.{Agreement, Matched, Reading, IsReading, ReadingIn, Returned}
 use Rattle.theory.specs.Choice.{LeastRole, NoRole, Chosen, NoneChosen}
 use Rattle.theory.specs.Choice.{Several, reached, stopped, undone, sevenPlaces}
 use Rattle.theory.specs.Refusals.{Rule, Room, Short, askedTooMuch, tooShort, sizeRules, meshRules, noReading}
 use Rattle.theory.specs.Refusals.{Passed, Refused}
-use Rattle.theory.specs.Calls.{Answer, OneAnswer, SeveralAnswer, Outputs, accepted, oneRefusal, severalAccepted}
-use Rattle.theory.specs.Calls.{written, zeros, lentToSplit, Splits}
+use Rattle.theory.specs.Calls.{Answer, OneAnswer, SeveralAnswer, Outputs, acceptedMesh, oneRefusal}
+use Rattle.theory.specs.Calls.{acceptedLevels, written, zeros, lentToSplit, Splits}
 use Rattle.theory.specs.Calls.{undoOneRules, lentToUndoOne, writtenReading, acceptedReading, UndoesOne}
 use Rattle.theory.specs.Calls.{undoSeveralRules, lentToUndoSeveral, UndoesSeveral}
 use Rattle.theory.specs.Demands.{Enough, Within, foundMesh, foundReading, foundRoles, SplitsBack, Exactly}
@@ -28,6 +28,7 @@ use Rattle.theory.proofs.Refusals.{refused-by-back, back-refuses, not-g
 use Rattle.theory.proofs.Refusals.{passed-proper, proper-passed}
 use Rattle.theory.proofs.Splitting.{split-length}
 use Rattle.theory.proofs.Lawful.{same-lawful}
+use Rattle.theory.proofs.EdgeCounts.{reading-boundary}
 use Rattle.theory.proofs.Canonical.{returned-exists}
 use Rattle.theory.proofs.Determined.{chosen-not-refused, quarter}
 
@@ -99,21 +100,21 @@ take-written new old {n} e = take-at new (drop (length new) old) n e
 -- a proper mesh within split's limits is accepted, with room enough
 pub split-accepts : {N : ℕ} {T out : List ℕ} {works : List (List ℕ)} → Within mostSplitTriangles N T
     → Enough (lentToSplit N T out works)
-    → Splits N T out works (accepted (N + edges T) (4 * triangles T)) (written (split N T) out) (map zeros works)
+    → Splits N T out works (acceptedMesh (N + edges T) (split N T)) (written (split N T) out) (map zeros works)
 split-accepts {N} {T} W enough = Splits.accepts (within-passed mostSplitTriangles N T _ W enough) refl refl refl
 
 -- its splitting is found in the output buffer
 found-split : (N : ℕ) (T out : List ℕ) {out′ : List ℕ} {answer : Answer}
-    → answer ≡ accepted (N + edges T) (4 * triangles T) → out′ ≡ written (split N T) out
+    → answer ≡ acceptedMesh (N + edges T) (split N T) → out′ ≡ written (split N T) out
     → foundMesh answer out′ ≡ split N T
 found-split N T out e f =
-    let long : length (split N T) ≡ 3 * (4 * triangles T) = omega (arith, split-length N T) in
+    let long : length (split N T) ≡ 3 * triangles (split N T) = omega (arith, split-length N T) in
     ap₂ foundMesh e f ∙ take-written (split N T) out long
 
 -- for the mesh of a reading, that is the input under the maps
 pub reading-splits : {N : ℕ} {T : List ℕ} {r : Reading} {out out′ : List ℕ} {works works′ : List (List ℕ)}
     {answer : Answer} → IsReading Same N T r
-    → (answer ≡ accepted (r .vertices + edges (r .mesh)) (4 * triangles (r .mesh)))
+    → (answer ≡ acceptedMesh (r .vertices + edges (r .mesh)) (split (r .vertices) (r .mesh)))
     × (out′ ≡ written (split (r .vertices) (r .mesh)) out) × (works′ ≡ map zeros works)
     → SplitsBack N T r out works answer out′ works′
 reading-splits {N} {T} {r} {out} R (e, f, g) = record {
@@ -121,22 +122,32 @@ reading-splits {N} {T} {r} {out} R (e, f, g) = record {
   writes = f;
   clears = g;
   sameVertices = ap (λ (a : Answer). a .vertices) e ∙ sym (match-size (R .matched .vertices));
-  sameTriangles = ap (λ (a : Answer). a .triangles) e ∙ sym (quarter R);
+  sameTriangles = ap (λ (a : Answer). a .triangles) e ∙ sym (match-size (R .matched .faces));
   input = subst₂ (λ (M : ℕ) (S : List ℕ). Matched Same (r .vertexMap) (r .triangleMap) N T M S)
       (ap (λ (a : Answer). a .vertices) (sym e)) (sym (found-split (r .vertices) (r .mesh) out e f)) (R .matched);
 }
 
--- where split refuses nothing, the mesh is proper and within its limits
+-- What an acceptance by split says, of the splitting as a caller finds it: the mesh is proper and within its limits.
+pub record SplitAccepted (N : ℕ) (T : List ℕ) (answer : Answer) (out′ : List ℕ) : Type 0 where
+  pub within : Within mostSplitTriangles N T
+  pub vertices : answer .vertices ≡ N + edges T
+  pub found : foundMesh answer out′ ≡ split N T
+  pub counted : answer ≡ acceptedMesh (answer .vertices) (foundMesh answer out′)
+
+-- where split refuses nothing, it is such an acceptance
 pub split-accepted : {N : ℕ} {T out out′ : List ℕ} {works works′ : List (List ℕ)} {answer : Answer}
-    → Splits N T out works answer out′ works′ → answer .refusal ≡ 0
-    → Within mostSplitTriangles N T × (answer .vertices ≡ N + edges T) × (foundMesh answer out′ ≡ split N T)
+    → Splits N T out works answer out′ works′ → answer .refusal ≡ 0 → SplitAccepted N T answer out′
 split-accepted (Splits.refuses n p R e _ _) none =
     absurd (omega (arith, refused-above _ n p R (omega arith), ap (λ (a : Answer). a .refusal) e, none))
-split-accepted {N} {T} {out} (Splits.accepts passed e f _) none = (
-  passed-within mostSplitTriangles N T _ passed .0,
-  ap (λ (a : Answer). a .vertices) e,
-  found-split N T out e f,
-)
+split-accepted {N} {T} {out} {answer = answer} (Splits.accepts passed e f _) none = record {
+  within = passed-within mostSplitTriangles N T _ passed .0;
+  vertices = grown;
+  found = found-split N T out e f;
+  counted = e ∙ ap₂ acceptedMesh (sym grown) (sym (found-split N T out e f));
+}
+  where
+    grown : answer .vertices ≡ N + edges T
+    grown = ap (λ (a : Answer). a .vertices) e
 
 -- ---- which role is chosen
 
@@ -258,7 +269,7 @@ pub record Accepted (N : ℕ) (T : List ℕ) (asked : ℕ) (out : Outputs) (answ
   pub within : Within mostTriangles N T
   pub chosen : Chosen N T asked (answer .role)
   pub returned : Returned Same N T (answer .role) (foundReading N T answer out′)
-  pub counted : answer .common .triangles ≡ triangles (foundMesh (answer .common) (out′ .mesh))
+  pub counted : answer .common ≡ acceptedMesh (answer .common .vertices) (foundMesh (answer .common) (out′ .mesh))
   pub wrote : out′ ≡ writtenReading (foundReading N T answer out′) out
 
 -- the written reading is found
@@ -292,7 +303,7 @@ one-accepted-found {N} {T} {asked} {out} {works = works} (UndoesOne.accepts role
       within = one-within N T asked (lentToUndoOne N T out works) passed;
       chosen = c;
       returned = subst (λ (s : Reading). Returned Same N T role s) (sym found) R;
-      counted = ap (λ (s : Reading). triangles (s .mesh)) (sym found);
+      counted = ap (λ (s : Reading). acceptedMesh (r .vertices) (s .mesh)) (sym found);
       wrote = ap (λ (s : Reading). writtenReading s out) (sym found);
     }
 
@@ -341,14 +352,26 @@ several-roles reached = refl
 several-roles (stopped _) = refl
 several-roles (undone r _ _ S) = ap suc (several-roles S)
 
+-- what every reading has k times less of, each level leaves k times less of
+several-scaled : (k : ℕ) (size : List ℕ → ℕ)
+    → ((N : ℕ) (T : List ℕ) (r : Reading) → Proper N T → IsReading Same N T r → size T ≡ k * size (r .mesh))
+    → {asked N levels M : ℕ} {T roles C : List ℕ} → Proper N T → Several asked N T levels roles M C
+    → size T ≡ k ^ levels * size C
+several-scaled k size scaled {T = T} P reached = sym (rw (pow-zero k) (one-mul (size T)))
+several-scaled k size scaled {T = T} P (stopped _) = sym (rw (pow-zero k) (one-mul (size T)))
+several-scaled k size scaled {N = N} {levels = suc levels} {T = T} {C = C} P (undone r _ R S) =
+    scaled N T r P (R .is) ∙ ap (λ (n : ℕ). k * n) (several-scaled k size scaled (R .is .proper) S)
+    ∙ sym (mul-assoc k (k ^ levels) (size C)) ∙ ap (λ (n : ℕ). n * size C) (sym (pow-succ' k levels))
+
 -- each level leaves a quarter of the triangles
-pub several-quarters : {asked N levels M : ℕ} {T roles C : List ℕ} → Several asked N T levels roles M C
+pub several-quarters : {asked N levels M : ℕ} {T roles C : List ℕ} → Proper N T → Several asked N T levels roles M C
     → triangles T ≡ 4 ^ levels * triangles C
-several-quarters {T = T} reached = sym (rw (pow-zero 4) (one-mul (triangles T)))
-several-quarters {T = T} (stopped _) = sym (rw (pow-zero 4) (one-mul (triangles T)))
-several-quarters {levels = suc levels} {C = C} (undone r _ R S) =
-    quarter (R .is) ∙ ap (λ (n : ℕ). 4 * n) (several-quarters S) ∙ sym (mul-assoc 4 (4 ^ levels) (triangles C))
-    ∙ ap (λ (n : ℕ). n * triangles C) (sym (pow-succ' 4 levels))
+several-quarters = several-scaled 4 triangles (λ _ _ _ _ R. quarter R)
+
+-- and half of the boundary edges
+pub several-halves : {asked N levels M : ℕ} {T roles C : List ℕ} → Proper N T → Several asked N T levels roles M C
+    → boundaryEdges T ≡ 2 ^ levels * boundaryEdges C
+several-halves = several-scaled 2 boundaryEdges (λ _ _ _ P R. reading-boundary P R)
 
 -- where fewer are undone than asked, nothing is left to undo
 pub several-stops : {asked N levels M : ℕ} {T roles C : List ℕ} → Several asked N T levels roles M C → levels < asked
@@ -384,7 +407,7 @@ several-asked N T asked rooms passed =
 pub several-accepts : {N : ℕ} {T : List ℕ} {asked levels M : ℕ} {roles C out : List ℕ} {works : List (List ℕ)}
     → Within mostTriangles N T → Enough (lentToUndoSeveral N T out works) → asked ≤ mostLevels
     → Several asked N T levels roles M C
-    → UndoesSeveral N T asked out works (severalAccepted levels roles M (triangles C)) (written C out) (map zeros works)
+    → UndoesSeveral N T asked out works (acceptedLevels levels roles M C) (written C out) (map zeros works)
 several-accepts {N} {T} {asked} {levels} {M} {roles} {C} W enough l S =
     UndoesSeveral.accepts levels M roles C (several-passed N T asked _ W enough l) S refl refl refl
 
@@ -394,7 +417,7 @@ pub record SeveralAccepted (N : ℕ) (T : List ℕ) (asked : ℕ) (out : List �
   pub within : Within mostTriangles N T
   pub undone : Several asked N T (answer .levels) (foundRoles answer) (answer .common .vertices)
       (foundMesh (answer .common) out′)
-  pub counted : answer .common .triangles ≡ triangles (foundMesh (answer .common) out′)
+  pub counted : answer .common ≡ acceptedMesh (answer .common .vertices) (foundMesh (answer .common) out′)
   pub placed : answer .roles ≡ sevenPlaces (foundRoles answer)
   pub wrote : out′ ≡ written (foundMesh (answer .common) out′) out
 
@@ -429,12 +452,12 @@ several-accepted-found {N} {T} {asked} {out} {works = works} (UndoesSeveral.acce
     rolesFound : take levels (sevenPlaces roles) ≡ roles
     rolesFound = found-roles roles (several-roles S) few
 
-    here : SeveralAccepted N T asked out (severalAccepted levels roles M (triangles C)) (written C out)
+    here : SeveralAccepted N T asked out (acceptedLevels levels roles M C) (written C out)
     here = record {
       within = limits .1;
       undone =
           subst₂ (λ (ρs S : List ℕ). Several asked N T levels ρs M S) (sym rolesFound) (sym mesh) S;
-      counted = ap triangles (sym mesh);
+      counted = ap (acceptedMesh M) (sym mesh);
       placed = ap sevenPlaces (sym rolesFound);
       wrote = ap (λ (D : List ℕ). written D out) (sym mesh);
     }

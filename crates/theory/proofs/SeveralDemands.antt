@@ -14,17 +14,17 @@ use Rattle.theory.specs.Mesh.{triangles, Same, Proper}
 use Rattle.theory.specs.Splitting.{edges, split}
 use Rattle.theory.specs.Reading.{Agreement, Reading, Returned}
 use Rattle.theory.specs.Choice.{LeastRole, NoRole, Several, reached, stopped, undone, sevenPlaces}
-use Rattle.theory.specs.Calls.{SeveralAnswer, accepted, severalAccepted, written, zeros, lentToSplit, Splits}
-use Rattle.theory.specs.Calls.{lentToUndoSeveral, UndoesSeveral}
+use Rattle.theory.specs.Calls.{Answer, SeveralAnswer, acceptedMesh, acceptedLevels, written, zeros}
+use Rattle.theory.specs.Calls.{lentToSplit, Splits, lentToUndoSeveral, UndoesSeveral}
 use Rattle.theory.specs.Demands.{Enough, Within, SameApart, foundMesh, foundRoles, SplitTimes, never, onceMore}
 use Rattle.theory.proofs.Finite.{match-size}
 use Rattle.theory.proofs.Refusals.{passed-not-refused, fits-none-short}
 use Rattle.theory.proofs.Lawful.{same-lawful, matched-identity, matched-composed, carried}
 use Rattle.theory.proofs.SplitProper.{itself, split-returned}
 use Rattle.theory.proofs.Determined.{returned-in, quarter, undoes-several-determined}
-use Rattle.theory.proofs.Results.{reading-within, smaller-within, split-accepts, split-accepted}
+use Rattle.theory.proofs.Results.{reading-within, smaller-within, split-accepts, SplitAccepted}
 use Rattle.theory.proofs.Results.{several-at-most, several-quarters, several-stops, several-within}
-use Rattle.theory.proofs.Results.{several-passed, several-accepts}
+use Rattle.theory.proofs.Results.{split-accepted, several-passed, several-accepts}
 use Rattle.theory.proofs.Results.{SeveralAccepted, several-accepted-found}
 use Rattle.theory.proofs.Demands.{split-within}
 
@@ -42,15 +42,16 @@ split-times-splittings never = untouched
 split-times-splittings {N} {T = T} (onceMore {times} {M} {S} {out′ = out′} {answer = a} before splits none) =
     go (split-accepted splits none) (split-times-splittings before)
   where
-    go : Within mostSplitTriangles M S × (a .vertices ≡ M + edges S) × (foundMesh a out′ ≡ split M S)
-        → Splittings N T times M S → Splittings N T (suc times) (a .vertices) (foundMesh a out′)
-    go (W, e, f) rest = subst₂ (Splittings N T (suc times)) (sym e) (sym f) (another rest W)
+    go : SplitAccepted M S a out′ → Splittings N T times M S
+        → Splittings N T (suc times) (a .vertices) (foundMesh a out′)
+    go A rest =
+        subst₂ (Splittings N T (suc times)) (sym (A .vertices)) (sym (A .found)) (another rest (A .within))
 
 -- and for these splittings there are such calls
 splittings-split-times : {N times M : ℕ} {T S : List ℕ} → Splittings N T times M S → SplitTimes N T times M S
 splittings-split-times untouched = never
 splittings-split-times {N} {T = T} (another {times} {M} {S} before W) =
-    subst (SplitTimes N T (suc times) (M + edges S)) (split-accepted splits refl .2)
+    subst (SplitTimes N T (suc times) (M + edges S)) (split-accepted splits refl .found)
     (onceMore (splittings-split-times before) splits refl)
   where
     room : List ℕ
@@ -61,7 +62,7 @@ splittings-split-times {N} {T = T} (another {times} {M} {S} before W) =
         fits-none-short (lentToSplit M S room [])
         (omega (arith, length-replicate {A = ℕ} (12 * triangles S) 0), tt)
 
-    splits : Splits M S room [] (accepted (M + edges S) (4 * triangles S)) (written (split M S) room) []
+    splits : Splits M S room [] (acceptedMesh (M + edges S) (split M S)) (written (split M S) room) []
     splits = split-accepts W enough
 
 -- what they make is within undo's limits, if the mesh is
@@ -103,7 +104,7 @@ few-levels levels {F} {G} e some few = go (decLt mostLevels levels)
 several-few : {asked N levels M : ℕ} {T roles C : List ℕ} → Within mostTriangles N T
     → Several asked N T levels roles M C → levels ≤ mostLevels
 several-few {levels = levels} W S =
-    few-levels levels (several-quarters S) (several-within W S .some) (W .fewTriangles)
+    few-levels levels (several-quarters (W .proper) S) (several-within W S .some) (W .fewTriangles)
 
 -- after seven one triangle is left, and one is not four
 one-left : {F G : ℕ} (H : ℕ) → F ≡ 4 ^ mostLevels * G → F ≤ mostTriangles → 0 < G → G ≡ 4 * H → ⊥
@@ -118,7 +119,7 @@ several-seven {levels = levels} {M} {T} {roles} {C} W S = go (decLt levels mostL
     seven : (levels < mostLevels → ⊥) → triangles T ≡ 4 ^ mostLevels * triangles C
     seven h =
         let all : levels ≡ mostLevels = omega (arith, several-at-most S, h) in
-        several-quarters S ∙ ap (λ (n : ℕ). 4 ^ n * triangles C) all
+        several-quarters (W .proper) S ∙ ap (λ (n : ℕ). 4 ^ n * triangles C) all
 
     go : Dec (levels < mostLevels) → NoRole Same M C
     go (yes l) = several-stops S l
@@ -161,7 +162,7 @@ zeros-placed n = ap (take mostLevels) swapped
 -- role 0 for each of them, and writes the mesh; the rest stays.
 pub record ComesBackFrom (levels N : ℕ) (T out : List ℕ) (works : List (List ℕ)) (answer : SeveralAnswer)
     (out′ : List ℕ) (works′ : List (List ℕ)) : Type 0 where
-  pub answers : answer ≡ severalAccepted levels (replicate levels 0) N (triangles T)
+  pub answers : answer ≡ acceptedLevels levels (replicate levels 0) N T
   pub allZero : answer .roles ≡ replicate mostLevels 0
   pub writes : out′ ≡ written T out
   pub clears : works′ ≡ map zeros works
@@ -169,7 +170,7 @@ pub record ComesBackFrom (levels N : ℕ) (T out : List ℕ) (works : List (List
 -- a proper mesh within undo's limits, split so many times, and undone as many levels with room enough, is accepted ..
 pub split-times-undone : {N times M : ℕ} {T S out : List ℕ} {works : List (List ℕ)} → Within mostTriangles N T
     → SplitTimes N T times M S → Enough (lentToUndoSeveral M S out works)
-    → UndoesSeveral M S times out works (severalAccepted times (replicate times 0) N (triangles T)) (written T out)
+    → UndoesSeveral M S times out works (acceptedLevels times (replicate times 0) N T) (written T out)
     (map zeros works)
 split-times-undone W C enough =
     let D : Splittings _ _ _ _ _ = split-times-splittings C in
@@ -183,7 +184,7 @@ pub split-times-comes-back : {N times M : ℕ} {T S out out′ : List ℕ} {work
 split-times-comes-back {N} {times} {T = T} {out = out} {out′} {works} {works′} {answer} W C enough U =
     go (undoes-several-determined U (split-times-undone W C enough))
   where
-    go : (answer ≡ severalAccepted times (replicate times 0) N (triangles T)) × (out′ ≡ written T out)
+    go : (answer ≡ acceptedLevels times (replicate times 0) N T) × (out′ ≡ written T out)
         × (works′ ≡ map zeros works) → ComesBackFrom times N T out works answer out′ works′
     go (e, f, g) = record {
       answers = e;
@@ -270,8 +271,8 @@ module _ {N : ℕ} {T : List ℕ} {asked : ℕ} {out out′ : List ℕ} {works w
 
   -- each level leaves a quarter of the triangles: an invented number of levels breaks the promise
   pub left-quarters : triangles T ≡ 4 ^ answer .levels * answer .common .triangles
-  left-quarters = several-quarters (acceptance .undone)
-      ∙ ap (λ (n : ℕ). 4 ^ answer .levels * n) (sym (acceptance .counted))
+  left-quarters = several-quarters (acceptance .within .proper) (acceptance .undone)
+      ∙ ap (λ (a : Answer). 4 ^ answer .levels * a .triangles) (sym (acceptance .counted))
 
   -- ---- demand 3, level by level: undo several undoes what it answers, and stops only where it must
 

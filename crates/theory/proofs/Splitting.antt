@@ -224,14 +224,14 @@ same-side T whole different k l h same b t =
 
 module _ (T : List ℕ) where
   -- half-edges that pass the test are on the same edge
-  passes-sameEdge : (g h : ℕ) → Passes (sameEdge T h g) → SameEdge T g h
+  pub passes-sameEdge : (g h : ℕ) → Passes (sameEdge T h g) → SameEdge T g h
   unfolding sameEdge
   passes-sameEdge g h t =
       let p = and-sound (eqb (lesser T g) (lesser T h)) (eqb (greater T g) (greater T h)) t in
       record { low = eqb→eq (lesser T g) (lesser T h) (p .0); high = eqb→eq (greater T g) (greater T h) (p .1) }
 
   -- and those on the same edge pass it
-  sameEdge-passes : (g h : ℕ) → SameEdge T g h → Passes (sameEdge T h g)
+  pub sameEdge-passes : (g h : ℕ) → SameEdge T g h → Passes (sameEdge T h g)
   unfolding sameEdge
   sameEdge-passes g h e = and-complete (eqb (lesser T g) (lesser T h)) (eqb (greater T g) (greater T h))
       (eq→eqb (lesser T g) (lesser T h) (e .low)) (eq→eqb (greater T g) (greater T h) (e .high))

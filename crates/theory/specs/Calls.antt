@@ -7,7 +7,7 @@ use mathlib.Core.List.{List, [], _∷_, _++_, map}
 use lib.ListN.{length, drop, replicate}
 use Rattle.theory.specs.Limits.{mostTriangles, mostSplitTriangles, anyRole, mostLevels}
 use Rattle.theory.specs.Mesh.{triangles, Same}
-use Rattle.theory.specs.Splitting.{edges, split}
+use Rattle.theory.specs.Splitting.{edges, boundaryEdges, split}
 use Rattle.theory.specs.Reading.{Reading, Returned}
 use Rattle.theory.specs.Choice.{Chosen, Several, sevenPlaces}
 use Rattle.theory.specs.Refusals.{Rule, Room, askedTooMuch, tooShort, sizeRules, meshRules, noReading}
@@ -15,12 +15,15 @@ use Rattle.theory.specs.Refusals.{Passed, Refused}
 
 -- ---- answers
 
--- "An answer holds the refusal number (0 when accepted), the place, the resulting V and F".
+-- "An answer holds the refusal number (0 when accepted), the place, the resulting V and F", and by #102 "also .. the
+-- resulting mesh's edge count and boundary edge count".
 pub record Answer : Type 0 where
   pub refusal : ℕ
   pub place : ℕ
   pub vertices : ℕ
   pub triangles : ℕ
+  pub edges : ℕ
+  pub boundaryEdges : ℕ
 
 -- ".. and for undo the role".
 pub record OneAnswer : Type 0 where
@@ -33,29 +36,34 @@ pub record SeveralAnswer : Type 0 where
   pub levels : ℕ
   pub roles : List ℕ
 
--- "Other numbers in a refusal are 0."
+-- "Other numbers in a refusal are 0"; #102: "and zeros in a refusal".
 abbrev pub refusal : ℕ → ℕ → Answer
-refusal number place = record { refusal = number; place = place; vertices = 0; triangles = 0 }
+refusal number place =
+    record { refusal = number; place = place; vertices = 0; triangles = 0; edges = 0; boundaryEdges = 0 }
 
--- An acceptance: 0, place 0, and the resulting V and F.
-abbrev pub accepted : ℕ → ℕ → Answer
-accepted N F = record { refusal = 0; place = 0; vertices = N; triangles = F }
+-- An acceptance: 0, place 0, and the resulting V, F, E and B.
+abbrev pub accepted : ℕ → ℕ → ℕ → ℕ → Answer
+accepted N F E B = record { refusal = 0; place = 0; vertices = N; triangles = F; edges = E; boundaryEdges = B }
+
+-- The acceptance whose resulting mesh is this one.
+abbrev pub acceptedMesh : ℕ → List ℕ → Answer
+acceptedMesh N T = accepted N (triangles T) (edges T) (boundaryEdges T)
 
 -- A refusal of undo one: the role is 0 too.
 abbrev pub oneRefusal : ℕ → ℕ → OneAnswer
 oneRefusal number place = record { common = refusal number place; role = 0 }
 
--- An acceptance of undo one: the role, and the V and F of the mesh.
-abbrev pub oneAccepted : ℕ → ℕ → ℕ → OneAnswer
-oneAccepted role N F = record { common = accepted N F; role = role }
+-- An acceptance of undo one: the role, beside what is accepted.
+abbrev pub oneAccepted : ℕ → Answer → OneAnswer
+oneAccepted role common = record { common = common; role = role }
 
 -- A refusal of undo several: no levels and no roles.
 abbrev pub severalRefusal : ℕ → ℕ → SeveralAnswer
 severalRefusal number place = record { common = refusal number place; levels = 0; roles = sevenPlaces [] }
 
--- An acceptance of undo several: the levels, the roles taken in seven places, and the V and F of the mesh that is left.
-abbrev pub severalAccepted : ℕ → List ℕ → ℕ → ℕ → SeveralAnswer
-severalAccepted levels roles N F = record { common = accepted N F; levels = levels; roles = sevenPlaces roles }
+-- An acceptance of undo several: the levels, and the roles taken in seven places, beside what is accepted.
+abbrev pub severalAccepted : ℕ → List ℕ → Answer → SeveralAnswer
+severalAccepted levels roles common = record { common = common; levels = levels; roles = sevenPlaces roles }
 
 -- ---- buffers
 
@@ -99,7 +107,7 @@ pub data Splits (N : ℕ) (T out : List ℕ) (works : List (List ℕ)) (answer :
   refuses : (number place : ℕ) → Refused (splitRules N T (lentToSplit N T out works)) number place
       → answer ≡ refusal number place → out′ ≡ out → works′ ≡ map zeros works → Splits N T out works answer out′ works′
   accepts : Passed (splitRules N T (lentToSplit N T out works))
-      → answer ≡ accepted (N + edges T) (4 * triangles T) → out′ ≡ written (split N T) out → works′ ≡ map zeros works
+      → answer ≡ acceptedMesh (N + edges T) (split N T) → out′ ≡ written (split N T) out → works′ ≡ map zeros works
       → Splits N T out works answer out′ works′
 
 -- ---- undo one
@@ -148,9 +156,9 @@ writtenReading r out = record {
   triangleMap = written (r .triangleMap) (out .triangleMap);
 }
 
--- A reading answered: its role, and the V and F of its mesh.
+-- A reading answered: its role, and what is counted of its mesh.
 abbrev pub acceptedReading : ℕ → Reading → OneAnswer
-acceptedReading role r = oneAccepted role (r .vertices) (triangles (r .mesh))
+acceptedReading role r = oneAccepted role (acceptedMesh (r .vertices) (r .mesh))
 
 -- The call undo one: accepted exactly with the role that is chosen, and the returned reading in it.
 pub data UndoesOne (N : ℕ) (T : List ℕ) (asked : ℕ) (out : Outputs) (works : List (List ℕ)) (answer : OneAnswer)
@@ -183,6 +191,10 @@ undoSeveralRules N T asked rooms = undoSeveralSizeRules N (length T) asked rooms
 abbrev pub lentToUndoSeveral : ℕ → List ℕ → List ℕ → List (List ℕ) → List Room
 lentToUndoSeveral N T out works = undoSeveralRooms N (triangles T) (length out) (map length works)
 
+-- Levels answered: how many they are, their roles, and what is counted of the mesh that they leave.
+abbrev pub acceptedLevels : ℕ → List ℕ → ℕ → List ℕ → SeveralAnswer
+acceptedLevels levels roles M C = severalAccepted levels roles (acceptedMesh M C)
+
 -- The call undo several: level by level, with the allowance asked.
 pub data UndoesSeveral (N : ℕ) (T : List ℕ) (asked : ℕ) (out : List ℕ) (works : List (List ℕ)) (answer : SeveralAnswer)
     (out′ : List ℕ) (works′ : List (List ℕ)) : Type 0 where
@@ -192,5 +204,5 @@ pub data UndoesSeveral (N : ℕ) (T : List ℕ) (asked : ℕ) (out : List ℕ) (
   accepts : (levels M : ℕ) (roles C : List ℕ)
       → Passed (undoSeveralRules N T asked (lentToUndoSeveral N T out works))
       → Several asked N T levels roles M C
-      → answer ≡ severalAccepted levels roles M (triangles C) → out′ ≡ written C out → works′ ≡ map zeros works
+      → answer ≡ acceptedLevels levels roles M C → out′ ≡ written C out → works′ ≡ map zeros works
       → UndoesSeveral N T asked out works answer out′ works′

@@ -11,7 +11,7 @@ use Rattle.theory.specs.Mesh.{triangles, Same, Proper}
 use Rattle.theory.specs.Splitting.{edges, split}
 use Rattle.theory.specs.Reading.{Matched, Reading}
 use Rattle.theory.specs.Refusals.{Room, Short}
-use Rattle.theory.specs.Calls.{Answer, OneAnswer, SeveralAnswer, Outputs, accepted, written, zeros, Splits}
+use Rattle.theory.specs.Calls.{Answer, OneAnswer, SeveralAnswer, Outputs, acceptedMesh, written, zeros, Splits}
 use Rattle.theory.specs.Frames.{FramesAnswer}
 use Rattle.theory.specs.Index.{faces, textSays, indexText, TextAnswer}
 
@@ -64,7 +64,7 @@ foundReading N T answer out = record {
 -- "accepted by split .., and its splitting is the input under the returned maps": split's result on a reading's mesh.
 pub record SplitsBack (N : ℕ) (T : List ℕ) (r : Reading) (out : List ℕ) (works : List (List ℕ)) (answer : Answer)
     (out′ : List ℕ) (works′ : List (List ℕ)) : Type 0 where
-  pub answers : answer ≡ accepted (r .vertices + edges (r .mesh)) (4 * triangles (r .mesh))
+  pub answers : answer ≡ acceptedMesh (r .vertices + edges (r .mesh)) (split (r .vertices) (r .mesh))
   pub writes : out′ ≡ written (split (r .vertices) (r .mesh)) out
   pub clears : works′ ≡ map zeros works
   pub sameVertices : answer .vertices ≡ N

@@ -37,6 +37,18 @@ isFirst T h = eqb (firstOn T h) h
 unfoldable pub edges : List ℕ → ℕ
 edges T = count (isFirst T) (length T)
 
+-- How many half-edges are on the edge that h is on: one of each triangle that has it, where corners are different.
+unfoldable pub appearances : List ℕ → ℕ → ℕ
+appearances T h = count (sameEdge T h) (length T)
+
+-- "An edge is boundary .. when one .. triangle": whether h is the first appearance of such an edge.
+unfoldable pub isBoundary : List ℕ → ℕ → Bool
+isBoundary T h = isFirst T h && eqb (appearances T h) 1
+
+-- B: how many boundary edges there are, each counted at its first appearance.
+unfoldable pub boundaryEdges : List ℕ → ℕ
+boundaryEdges T = count (isBoundary T) (length T)
+
 -- "Each coarse edge gets one new vertex, numbered V, V+1, ... in order of first appearance": the vertex on h's edge.
 unfoldable pub edgeNo : ℕ → List ℕ → ℕ → ℕ
 edgeNo N T h = N + count (isFirst T) (firstOn T h)

@@ -28,35 +28,43 @@ equalLists-sound (x ∷ xs) (y ∷ ys) t =
     let both = and-sound (eqb x y) (equalLists xs ys) t in
     ap₂ (λ z zs. z ∷ zs) (eqb→eq x y (both .0)) (equalLists-sound xs ys (both .1))
 
--- number by number
-unfoldable pub equalAnswers : Answer → Answer → Bool
-equalAnswers a b =
-    (eqb (a .refusal) (b .refusal) && eqb (a .place) (b .place))
-    && (eqb (a .vertices) (b .vertices) && eqb (a .triangles) (b .triangles))
+-- four pairs of numbers
+unfoldable pub equalFours : (m n p q N M F G : ℕ) → Bool
+equalFours m n p q N M F G = (eqb m n && eqb p q) && (eqb N M && eqb F G)
 
--- four pairs of numbers that pass are equal
-fours-sound : (m n p q N M F G : ℕ) → So ((eqb m n && eqb p q) && (eqb N M && eqb F G))
-    → (m ≡ n) × (p ≡ q) × (N ≡ M) × (F ≡ G)
+fours-sound : (m n p q N M F G : ℕ) → So (equalFours m n p q N M F G) → (m ≡ n) × (p ≡ q) × (N ≡ M) × (F ≡ G)
+unfolding equalFours
 fours-sound m n p q N M F G t =
     let halves = and-sound (eqb m n && eqb p q) _ t in
     let front = and-sound (eqb m n) (eqb p q) (halves .0) in
     let back = and-sound (eqb N M) (eqb F G) (halves .1) in
     (eqb→eq m n (front .0), eqb→eq p q (front .1), eqb→eq N M (back .0), eqb→eq F G (back .1))
 
+-- number by number
+unfoldable pub equalAnswers : Answer → Answer → Bool
+unfolding equalFours
+equalAnswers a b =
+    equalFours (a .refusal) (b .refusal) (a .place) (b .place) (a .vertices) (b .vertices) (a .triangles) (b .triangles)
+    && (eqb (a .edges) (b .edges) && eqb (a .boundaryEdges) (b .boundaryEdges))
+
 pub equalAnswers-sound : (a b : Answer) → So (equalAnswers a b) → a ≡ b
 unfolding equalAnswers
-equalAnswers-sound a b t = joined (fours-sound _ _ _ _ _ _ _ _ t)
+equalAnswers-sound a b t =
+    let all = and₃-sound (equalFours (a .refusal) (b .refusal) (a .place) (b .place) (a .vertices) (b .vertices)
+    (a .triangles) (b .triangles)) (eqb (a .edges) (b .edges)) (eqb (a .boundaryEdges) (b .boundaryEdges)) t in
+    joined (fours-sound _ _ _ _ _ _ _ _ (all .0)) (eqb→eq (a .edges) (b .edges) (all .1))
+    (eqb→eq (a .boundaryEdges) (b .boundaryEdges) (all .2))
   where
-    joined : {m n p q N M F G : ℕ} → (m ≡ n) × (p ≡ q) × (N ≡ M) × (F ≡ G)
-        → Path Answer (record { refusal = m; place = p; vertices = N; triangles = F })
-        (record { refusal = n; place = q; vertices = M; triangles = G })
-    joined (d, e, f, g) = cc
+    joined : {m n p q N M F G D E B C : ℕ} → (m ≡ n) × (p ≡ q) × (N ≡ M) × (F ≡ G) → D ≡ E → B ≡ C
+        → Path Answer (record { refusal = m; place = p; vertices = N; triangles = F; edges = D; boundaryEdges = B })
+        (record { refusal = n; place = q; vertices = M; triangles = G; edges = E; boundaryEdges = C })
+    joined (d, e, f, g) h j = cc
 
--- the same of the answers for frames
+-- of the answers for frames, the four numbers that they have
 unfoldable pub equalFrames : FramesAnswer → FramesAnswer → Bool
+unfolding equalFours
 equalFrames a b =
-    (eqb (a .refusal) (b .refusal) && eqb (a .place) (b .place))
-    && (eqb (a .vertices) (b .vertices) && eqb (a .triangles) (b .triangles))
+    equalFours (a .refusal) (b .refusal) (a .place) (b .place) (a .vertices) (b .vertices) (a .triangles) (b .triangles)
 
 pub equalFrames-sound : (a b : FramesAnswer) → So (equalFrames a b) → a ≡ b
 unfolding equalFrames

@@ -7,11 +7,13 @@ use mathlib.Core.List.{List, [], _∷_, _++_, map}
 use lib.Dec.{T as So, eqb, eqb→eq}
 use lib.ListN.{length}
 use Rattle.theory.specs.Limits.{mostTriangles, anyRole, mostLevels}
-use Rattle.theory.specs.Mesh.{triangles, Proper}
+use Rattle.theory.specs.Mesh.{Proper}
+use Rattle.theory.specs.Counting.{count, firstFrom}
+use Rattle.theory.specs.Splitting.{sameEdge, firstOn, isFirst, edges, appearances, isBoundary, boundaryEdges}
 use Rattle.theory.specs.Reading.{Reading}
 use Rattle.theory.specs.Refusals.{Room, Rule, Short, tooShort, noReading, meshRules, Passed, Refused}
-use Rattle.theory.specs.Calls.{Answer, OneAnswer, SeveralAnswer, Outputs, accepted, oneRefusal, severalRefusal}
-use Rattle.theory.specs.Calls.{severalAccepted, written, zeros, undoNumberRules}
+use Rattle.theory.specs.Calls.{Answer, OneAnswer, SeveralAnswer, Outputs, acceptedMesh, oneRefusal, severalRefusal}
+use Rattle.theory.specs.Calls.{acceptedLevels, written, zeros, undoNumberRules}
 use Rattle.theory.specs.Calls.{lentToUndoOne, undoOneRules, UndoesOne, lentToUndoSeveral, UndoesSeveral}
 use Rattle.theory.specs.Demands.{Enough, foundRoles}
 use Rattle.theory.proofs.Tests.{and-sound, and₃-sound, or-sound}
@@ -76,9 +78,10 @@ shown answer new = record {
 -- whether the row is accepted: the reading is the returned one in the role that is chosen
 unfoldable pub acceptedOneTest : ℕ → List ℕ → ℕ → OneAnswer → Outputs → Bool
 unfolding undoChecks passedTest returnedTest sameTest chosenTest equalAnswers
+    edges boundaryEdges isBoundary appearances isFirst firstOn sameEdge count firstFrom
 acceptedOneTest N T asked answer new =
     (passedTest (undoChecks anyRole N T asked)
-    && equalAnswers (answer .common) (accepted (answer .common .vertices) (triangles (new .mesh))))
+    && equalAnswers (answer .common) (acceptedMesh (answer .common .vertices) (new .mesh)))
     && (returnedTest sameTest N T (answer .role) (shown answer new) && chosenTest N T asked (answer .role))
 
 -- whether the row is refused with the number and the place of its answer
@@ -183,11 +186,12 @@ refusedSeveralTest N T asked answer new =
 
 -- the answer that says of the levels of these roles that they left (M, C)
 abbrev levelsOf : List ℕ → ℕ → List ℕ → SeveralAnswer
-levelsOf roles M C = severalAccepted (length roles) roles M (triangles C)
+levelsOf roles M C = acceptedLevels (length roles) roles M C
 
 -- whether it is accepted: what is written is left by the levels of its roles
 unfoldable pub acceptedSeveralTest : ℕ → List ℕ → ℕ → SeveralAnswer → List ℕ → Bool
 unfolding undoChecks passedTest severalTest equalSeverals
+    edges boundaryEdges isBoundary appearances isFirst firstOn sameEdge count firstFrom
 acceptedSeveralTest N T asked answer new =
     passedTest (undoChecks mostLevels N T asked)
     && (equalSeverals answer (levelsOf (foundRoles answer) (answer .common .vertices) new)

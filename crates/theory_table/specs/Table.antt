@@ -150,23 +150,28 @@ finSplit =
 
 -- ---- the table
 
--- The starred meshes, each under document 01's words for it.
+-- The starred meshes, each under document 01's words for it. How many edges and boundary edges there are is #102's, and
+-- two rows are for these counts alone.
 unfoldable pub starred : List Row
 unfolding sampleBytes
 starred =
     -- "One triangle (0,1,2) splits to (3,4,5), (0,3,5), (1,4,3), (2,5,4)."
-    splits 3 (0 ∷ 1 ∷ 2 ∷ []) (accepted 6 4) (3 ∷ 4 ∷ 5 ∷ 0 ∷ 3 ∷ 5 ∷ 1 ∷ 4 ∷ 3 ∷ 2 ∷ 5 ∷ 4 ∷ [])
+    splits 3 (0 ∷ 1 ∷ 2 ∷ []) (accepted 6 4 9 6) (3 ∷ 4 ∷ 5 ∷ 0 ∷ 3 ∷ 5 ∷ 1 ∷ 4 ∷ 3 ∷ 2 ∷ 5 ∷ 4 ∷ [])
+    -- #102's example: where no level is asked, the mesh itself is counted
+    ∷ undoesSeveral 3 (0 ∷ 1 ∷ 2 ∷ []) 0 (severalAccepted 0 [] (accepted 3 1 3 3)) (0 ∷ 1 ∷ 2 ∷ [])
     -- "The input above has the reading shown, in role 1."
     ∷ reads 12 sampleBytes (framesAccepted 6 4) sample
     ∷ undoesOne 6 sample 0 (oneRefusal 11 0) nothingWritten
-    ∷ undoesOne 6 sample 1 (oneAccepted 1 3 1) sampleShown
+    ∷ undoesOne 6 sample 1 (oneAccepted 1 (accepted 3 1 3 3)) sampleShown
     ∷ undoesOne 6 sample 2 (oneRefusal 11 0) nothingWritten
     ∷ undoesOne 6 sample 3 (oneRefusal 11 0) nothingWritten
-    ∷ undoesOne 6 sample anyRole (oneAccepted 1 3 1) sampleShown
-    ∷ undoesSeveral 6 sample 1 (severalAccepted 1 (1 ∷ []) 3 1) (0 ∷ 2 ∷ 1 ∷ [])
-    ∷ undoesSeveral 6 sample mostLevels (severalAccepted 1 (1 ∷ []) 3 1) (0 ∷ 2 ∷ 1 ∷ [])
+    ∷ undoesOne 6 sample anyRole (oneAccepted 1 (accepted 3 1 3 3)) sampleShown
+    ∷ undoesSeveral 6 sample 1 (severalAccepted 1 (1 ∷ []) (accepted 3 1 3 3)) (0 ∷ 2 ∷ 1 ∷ [])
+    ∷ undoesSeveral 6 sample mostLevels (severalAccepted 1 (1 ∷ []) (accepted 3 1 3 3)) (0 ∷ 2 ∷ 1 ∷ [])
     -- "Three triangles on the edge 0-1, third corners 2, 3, 4: splits to 12 vertices, 12 triangles."
-    ∷ splits 5 fin (accepted 12 12) finSplit
+    ∷ splits 5 fin (accepted 12 12 23 12) finSplit
+    -- an edge with three triangles is no boundary edge
+    ∷ undoesSeveral 5 fin 0 (severalAccepted 0 [] (accepted 5 3 7 6)) fin
     -- ""4D00000000" and LF: reads as V = 0, F = 0. Empty bytes: 12, place 0."
     ∷ reads 0 (textLine "4D00000000") (framesAccepted 0 0) []
     ∷ reads 0 [] (framesRefusal 12 0) []

@@ -2,6 +2,7 @@
 use crate::buffers::LONG;
 use crate::buffers::entry;
 use answers::answers::Answer;
+use answers::answers::FramesAnswer;
 use io::print_decimal;
 use io::write_all;
 ghost use Prim.Native.Nat.{_<_};
@@ -16,11 +17,28 @@ pub fn print_number(number: u64) {
 }
 
 // Prints the numbers that every answer has.
-pub fn print_answer(answer: Answer) {
+pub fn print_common(answer: FramesAnswer) {
     print_number(answer.refusal);
     print_number(answer.place);
     print_number(answer.vertices);
     print_number(answer.triangles);
+}
+
+// Prints those of split and of undo: the edges and boundary edges too.
+pub fn print_answer(answer: Answer) {
+    print_common(common(answer));
+    print_number(answer.edges);
+    print_number(answer.boundary_edges);
+}
+
+// The numbers of an answer of split or of undo that every answer has, as an answer that has no others.
+pub fn common(answer: Answer) -> FramesAnswer {
+    FramesAnswer {
+        refusal: answer.refusal,
+        place: answer.place,
+        vertices: answer.vertices,
+        triangles: answer.triangles,
+    }
 }
 
 // Prints the first `count` entries of a list on one line: how many there are, a colon, and the entries, or where they

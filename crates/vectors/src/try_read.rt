@@ -6,8 +6,9 @@ use crate::numbers::ANY;
 use crate::numbers::Found;
 use crate::numbers::next;
 use crate::present::Present;
+use crate::print::print_common;
 use crate::try_split::end;
-use answers::answers::Answer;
+use answers::answers::FramesAnswer;
 use flatcarol::call_frames::flatcarol_read_frames;
 use flatcarol::call_index::flatcarol_read_index;
 use io::write_all;
@@ -56,11 +57,12 @@ pub fn try_read(
 fn read(reader: Reader, room: usize, bytes: &[u8], present: Present, list: &mut [u16]) -> Present {
     let mut out: [u16; LONG] = [NOISE; LONG];
     let answer = call(reader, bytes, first(&mut out, room));
+    print_common(answer);
     end(answer, true, &out, room, present, list)
 }
 
 // Calls what reads the bytes, and prints its name.
-fn call(reader: Reader, bytes: &[u8], out: &mut [u16]) -> Answer {
+fn call(reader: Reader, bytes: &[u8], out: &mut [u16]) -> FramesAnswer {
     match reader {
         Reader::Frames => {
             write_all(1, b"read");

@@ -9,9 +9,11 @@ use crate::buffers::say_written;
 use crate::buffers::start;
 use crate::present::Lent;
 use crate::present::Present;
+use crate::print::common;
 use crate::print::print_answer;
 use crate::print::print_list;
 use answers::answers::Answer;
+use answers::answers::FramesAnswer;
 use flatcarol::call_split::flatcarol_split;
 use io::write_all;
 
@@ -28,7 +30,8 @@ pub fn try_split(present: Present, list: &mut [u16]) -> Present {
         present.work_need(),
     );
     write_all(1, b"split");
-    end(answer, true, &out, room, present, list)
+    print_answer(answer);
+    end(common(answer), true, &out, room, present, list)
 }
 
 // Splits a mesh into `out`, with work buffers that need so many entries.
@@ -52,31 +55,18 @@ fn split(vertices: u64, list: &[u16], out: &mut [u16], lent: Lent, need: usize) 
     answer
 }
 
-// Prints the numbers of an answer, ends the line and, if it was accepted, prints the mesh that the call wrote into
-// `out`, which was lent with so much room. Says whether more was written. A refusal has no triangles. If the mesh is to
-// be kept, it takes the place of the one in `list`.
+// Ends the line of an answer and, if it was accepted, prints the mesh that the call wrote into `out`, which was lent
+// with so much room. Says whether more was written. A refusal has no triangles. If the mesh is to be kept, it takes the
+// place of the one in `list`.
 pub fn end(
-    answer: Answer,
+    answer: FramesAnswer,
     keep: bool,
     out: &[u16; LONG],
     room: usize,
     present: Present,
     list: &mut [u16],
 ) -> Present {
-    print_answer(answer);
     write_all(1, b"\n");
-    take(answer, keep, out, room, present, list)
-}
-
-// The same after the line.
-pub fn take(
-    answer: Answer,
-    keep: bool,
-    out: &[u16; LONG],
-    room: usize,
-    present: Present,
-    list: &mut [u16],
-) -> Present {
     let entries = corners(answer.triangles);
     say_written(out, entries, room);
     if answer.refusal != 0 {

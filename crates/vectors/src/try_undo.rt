@@ -8,10 +8,11 @@ use crate::buffers::say_written;
 use crate::buffers::start;
 use crate::present::Lent;
 use crate::present::Present;
+use crate::print::common;
 use crate::print::print_answer;
 use crate::print::print_list;
 use crate::print::print_number;
-use crate::try_split::take;
+use crate::try_split::end;
 use answers::answers::Answer;
 use answers::answers::OneAnswer;
 use answers::answers::SeveralAnswer;
@@ -100,6 +101,8 @@ fn end_one(
         place: answer.place,
         vertices: answer.vertices,
         triangles: answer.triangles,
+        edges: answer.edges,
+        boundary_edges: answer.boundary_edges,
     });
     print_number(answer.role);
     write_all(1, b"\n");
@@ -150,7 +153,14 @@ pub fn try_several(asked: u64, keep: bool, present: Present, list: &mut [u16]) -
         present.work_need(),
     );
     print_several(asked, answer);
-    take(several_common(answer), keep, &out, room, present, list)
+    end(
+        common(several_common(answer)),
+        keep,
+        &out,
+        room,
+        present,
+        list,
+    )
 }
 
 // Undoes several splits of a mesh into `out`, with work buffers that need so many entries.
@@ -193,7 +203,7 @@ fn undo_several(
     answer
 }
 
-// Prints the answer of undo several.
+// Prints the answer of undo several, but for the end of the line.
 fn print_several(asked: u64, answer: SeveralAnswer) {
     let roles = answer.roles;
     write_all(1, b"several");
@@ -201,16 +211,17 @@ fn print_several(asked: u64, answer: SeveralAnswer) {
     print_answer(several_common(answer));
     print_number(answer.levels);
     print_roles(&roles);
-    write_all(1, b"\n");
 }
 
-// The numbers of an answer of undo several that every answer has.
+// The numbers of an answer of undo several that split answers too.
 fn several_common(answer: SeveralAnswer) -> Answer {
     Answer {
         refusal: answer.refusal,
         place: answer.place,
         vertices: answer.vertices,
         triangles: answer.triangles,
+        edges: answer.edges,
+        boundary_edges: answer.boundary_edges,
     }
 }
 

@@ -2,7 +2,7 @@
 // that is as it was lent shows as one that the call never writes there.
 use crate::buffers::start;
 use crate::present::Present;
-use crate::print::print_answer;
+use crate::print::print_common;
 use crate::print::print_number;
 use flatcarol::call_frames::flatcarol_write_frames;
 use flatcarol::call_index::flatcarol_write_index;
@@ -30,7 +30,7 @@ pub fn try_write(present: Present, list: &[u16]) -> Present {
 fn write(vertices: u64, list: &[u16], out: &mut [u8]) {
     let answer = flatcarol_write_frames(vertices, list, out);
     write_all(1, b"write");
-    print_answer(answer);
+    print_common(answer);
     print_bytes(out);
 }
 

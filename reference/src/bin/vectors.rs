@@ -1,7 +1,7 @@
 //! Reads cases from standard input and writes their answers to standard output, in the format of README.md, "Vectors".
 
 use reference::{read_frames, read_index, split, undo_one, undo_several, write_frames, write_index};
-use reference::{Answer, One, OneRoom, Search, Several};
+use reference::{Answer, FramesAnswer, One, OneRoom, Search, Several};
 use std::fmt::Write as _;
 use std::io::{Read as _, Write as _};
 
@@ -125,8 +125,13 @@ fn list_line(list: &[u16]) -> String {
     line + "\n"
 }
 
-/// The first numbers of an answer's line.
+/// The numbers that the line of every split and undo has.
 fn numbers_of(a: Answer) -> String {
+    format!("{} {} {} {} {} {}", a.refusal, a.place, a.vertices, a.triangles, a.edges, a.boundary_edges)
+}
+
+/// The numbers that the line of everything read and written has.
+fn frames_numbers_of(a: FramesAnswer) -> String {
     format!("{} {} {} {}", a.refusal, a.place, a.vertices, a.triangles)
 }
 
@@ -154,9 +159,9 @@ impl Present {
         self.list = list;
     }
 
-    /// Appends the answer of a call that gives a mesh, and if accepted the mesh, which takes the place of this one.
-    fn take_result(&mut self, call: &str, (a, list): (Answer, Vec<u16>), text: &mut String) {
-        let _ = writeln!(text, "{call} {}", numbers_of(a));
+    /// Appends the answer of a call that reads, and if accepted the mesh, which takes the place of this one.
+    fn take_read(&mut self, call: &str, (a, list): (FramesAnswer, Vec<u16>), text: &mut String) {
+        let _ = writeln!(text, "{call} {}", frames_numbers_of(a));
         if a.refusal == 0 {
             *text += &list_line(&list);
             self.take(a.vertices, list);
@@ -198,14 +203,14 @@ impl Present {
     fn write(&self) -> String {
         let room = self.lent.room(1, 11 + 15 * self.triangles());
         let (a, bytes) = write_frames(self.vertices, &self.list, room);
-        format!("write {}\n{}\n", numbers_of(a), all_lent(bytes, room, "-"))
+        format!("write {}\n{}\n", frames_numbers_of(a), all_lent(bytes, room, "-"))
     }
 
     /// The same of an index text, with its length: "a byte that is as it was lent shows as a dot".
     fn write_index(&self, asked_room: u64) -> String {
         let room = asked_room.min(MOST_INDEX_BYTES) as usize;
         let (a, bytes) = write_index(self.vertices, &self.list, room);
-        format!("write-index {} {}\n{}\n", numbers_of(a), bytes.len(), all_lent(bytes, room, "."))
+        format!("write-index {} {}\n{}\n", frames_numbers_of(a), bytes.len(), all_lent(bytes, room, "."))
     }
 }
 
@@ -240,7 +245,14 @@ fn answer(bytes: &[u8], text: &mut String) -> Result<(), Wrong> {
                 let corners = [numbers.entry()?, numbers.entry()?, numbers.entry()?];
                 present.list.extend(corners);
             }
-            3 => present.take_result("split", present.split(), text),
+            3 => {
+                let (a, list) = present.split();
+                let _ = writeln!(text, "split {}", numbers_of(a));
+                if a.refusal == 0 {
+                    *text += &list_line(&list);
+                    present.take(a.vertices, list);
+                }
+            }
             4 => {
                 let asked = numbers.argument()?;
                 let one = present.undo_one(asked);
@@ -276,12 +288,12 @@ fn answer(bytes: &[u8], text: &mut String) -> Result<(), Wrong> {
             }
             8 => {
                 let (room, n) = (numbers.argument()?, numbers.argument()?);
-                present.take_result("read", read_frames(numbers.raw(n)?, room as usize), text);
+                present.take_read("read", read_frames(numbers.raw(n)?, room as usize), text);
             }
             9 => *text += &present.write(),
             10 => {
                 let (vertices, room, n) = (numbers.argument()?, numbers.argument()?, numbers.argument()?);
-                present.take_result("read-index", read_index(vertices, numbers.raw(n)?, room as usize), text);
+                present.take_read("read-index", read_index(vertices, numbers.raw(n)?, room as usize), text);
             }
             11 => *text += &present.write_index(numbers.argument()?),
             _ => return Err(Wrong),

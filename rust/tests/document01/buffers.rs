@@ -26,9 +26,9 @@ fn split_needs_twelve_entries_a_triangle() {
     assert_eq!(split(4, &[0, 1, 2], &mut out, &mut Room::new()), Err(Refusal::InNoTriangle { vertex: 3 }));
     assert_eq!(out, [MARK; 14]);
 
-    let counts = split(3, &[0, 1, 2], &mut out, &mut Room::new()).unwrap();
-    assert_eq!(out[..counts.entries()], split_times(triangle(), 1).list);
-    assert_eq!(out[counts.entries()..], [MARK; 2]);
+    let entries = split(3, &[0, 1, 2], &mut out, &mut Room::new()).unwrap().fine.entries();
+    assert_eq!(out[..entries], split_times(triangle(), 1).list);
+    assert_eq!(out[entries..], [MARK; 2]);
 }
 
 #[test]

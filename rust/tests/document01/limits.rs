@@ -56,7 +56,7 @@ fn triangles() {
     assert_eq!(strip(4_097).split(&mut room), Err(Refusal::TooLarge));
     assert_eq!(size(&room), size(&Room::new()), "a mesh above the limits needs no room");
 
-    let fine = strip(4_096).split(&mut room).unwrap();
+    let fine = strip(4_096).split(&mut room).unwrap().fine;
     assert_eq!(fine.list.len(), 3 * Limits::TRIANGLES);
     assert_eq!(fine.undo_one(Asked::Least, &mut room).unwrap().coarse, strip(4_096));
 }
@@ -73,6 +73,6 @@ fn a_room_serves_meshes_of_any_size_in_any_order() {
     for times in [1, 4, 2, 5, 1] {
         let fine = split_times(triangle(), times);
         assert_eq!(fine.undo_several(7, &mut room).unwrap().levels(), times);
-        assert_eq!(triangle().split(&mut room).unwrap(), split_times(triangle(), 1));
+        assert_eq!(triangle().split(&mut room).unwrap().fine, split_times(triangle(), 1));
     }
 }

@@ -32,7 +32,7 @@ fn one_to_one(map: &[u16]) -> bool {
 
 // "A reading": the maps match the input with the splitting of the coarse mesh.
 fn reads(mesh: &Mesh, reading: &Reading) {
-    let fine = reading.coarse.split(&mut Room::new()).unwrap();
+    let fine = reading.coarse.split(&mut Room::new()).unwrap().fine;
     let renumbered: Vec<u16> = mesh.list.iter().map(|&corner| reading.vertex_map[usize::from(corner)]).collect();
     assert_eq!((reading.vertex_map.len(), reading.triangle_map.len()), (mesh.vertices, mesh.list.len() / 3));
     assert_eq!((fine.vertices, fine.list.len()), (mesh.vertices, mesh.list.len()));
@@ -44,7 +44,7 @@ fn reads(mesh: &Mesh, reading: &Reading) {
 
 #[test]
 fn one_triangle_splits() {
-    let fine = triangle().split(&mut Room::new()).unwrap();
+    let fine = triangle().split(&mut Room::new()).unwrap().fine;
     assert_eq!(fine, Mesh::new(6, [3, 4, 5, 0, 3, 5, 1, 4, 3, 2, 5, 4]));
 }
 
@@ -59,8 +59,14 @@ fn a_fin_splits_and_is_undone() {
 
 #[test]
 fn the_sample_has_role_1() {
-    let expected =
-        Reading { coarse: Mesh::new(3, [0, 2, 1]), role: 1, vertex_map: vec![4, 5, 0, 3, 1, 2], triangle_map: vec![2, 3, 0, 1] };
+    let expected = Reading {
+        coarse: Mesh::new(3, [0, 2, 1]),
+        edges: 3,
+        boundary_edges: 3,
+        role: 1,
+        vertex_map: vec![4, 5, 0, 3, 1, 2],
+        triangle_map: vec![2, 3, 0, 1],
+    };
     reads(&sample(), &expected);
     assert_eq!(undo(&sample(), Asked::Least), Ok(expected.clone()));
     assert_eq!(undo(&sample(), Asked::Role(1)), Ok(expected));

@@ -43,5 +43,5 @@ pub fn strip(triangles: u16) -> Mesh {
 
 pub fn split_times(mesh: Mesh, times: usize) -> Mesh {
     let mut room = Room::new();
-    (0..times).fold(mesh, |mesh, _| mesh.split(&mut room).unwrap())
+    (0..times).fold(mesh, |mesh, _| mesh.split(&mut room).unwrap().fine)
 }

@@ -25,6 +25,20 @@ fn the_figure_is_a_closed_mesh() {
     for &[a, b] in &edges {
         assert_eq!(edges.iter().filter(|&&edge| edge == [b, a]).count(), 1, "the other triangle at {a}, {b}");
     }
+    // So each edge comes twice in the 24 triangles, and none is a boundary edge.
+    let counted = figure.undo_several(0, &mut Room::new()).unwrap();
+    assert_eq!((counted.edges, counted.boundary_edges), (36, 0));
+}
+
+#[test]
+fn a_face_less_is_a_hole_of_three_edges() {
+    let mut figure = mesh(FIGURE, 14);
+    figure.list.drain(..3);
+    let counted = figure.undo_several(0, &mut Room::new()).unwrap();
+    assert_eq!((counted.edges, counted.boundary_edges), (36, 3));
+    // In the splitting each of them is two; and 2 * 36 + 3 * 23 edges.
+    let split = figure.split(&mut Room::new()).unwrap();
+    assert_eq!((split.edges, split.boundary_edges), (141, 6));
 }
 
 #[test]

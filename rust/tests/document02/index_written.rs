@@ -59,7 +59,7 @@ fn what_was_written_is_read_as_it_was() {
     let mut room = Room::new();
     let mut mesh = Mesh::new(3, [2, 0, 1]);
     for _ in 0..Limits::LEVELS {
-        mesh = mesh.split(&mut room).unwrap();
+        mesh = mesh.split(&mut room).unwrap().fine;
         assert_eq!(Mesh::from_index(mesh.vertices, mesh.to_index().unwrap()).as_ref(), Ok(&mesh));
     }
     // Every corner that there is, in two meshes.

@@ -1,7 +1,7 @@
 -- `calls_split::split_mesh` meets its contract: what the sizes or `judge` refuse is refused, and else the numbers of
 -- the edge vertices are those of the splitting, so that it is the splitting that is written.
 use native.Mathlib.Omega.{arith}
-use Prim.Native.Nat.{ℕ, _+_, _*_, _<_}
+use Prim.Native.Nat.{ℕ, _*_}
 use mathlib.Core.Path.{_≡_, _∙_, refl, ap}
 use mathlib.Core.Logic.{_≢_}
 use mathlib.Core.List.{List, [], _∷_}
@@ -10,12 +10,16 @@ use Rattle.theory.specs.Limits.{mostSplitTriangles}
 use Rattle.theory.specs.Mesh.{triangles}
 use Rattle.theory.specs.Splitting.{firstOn, edgeNo, split}
 use Rattle.theory.specs.Refusals.{Short, Passed, tooShort, sizeRules, meshRules}
-use Rattle.theory.specs.Calls.{Answer, refusal, accepted, written, splitSizeRules, lentToSplit, Splits}
+use Rattle.theory.specs.Calls.{Answer, refusal, written, splitSizeRules, lentToSplit, Splits}
 use Rattle.theory.proofs.Refusals.{Sized, sized, Fits, none-short-fits, not-given, passed-front}
-use Rattle.theory.proofs.Refusals.{passed-both, refused-by-front, refused-by-back}
+use Rattle.theory.proofs.Refusals.{passed-both, refused-by-front, refused-by-back, passed-proper}
+use Rattle.answers.specs.declared.counts.Counts.{Counts}
+use Rattle.answers.specs.Counts.{acceptedCounts, SplitCountsLent, splitCounts}
+use Rattle.answers.proofs.Counted.{counts-same, split-counted}
 use Rattle.lists.specs.Tables.{Tabulated}
 use Rattle.limits.proofs.Judgement.{judged-passed, judged-refused}
 use Rattle.mesh_rings.specs.Ring.{RingBy}
+use Rattle.mesh_counts.specs.Counts.{CountLent, BoundaryCounted}
 use Rattle.mesh_judge.specs.Judging.{JudgeLent, MeshJudged}
 use Rattle.split.specs.Numbers.{NumberLent, Numbered}
 use Rattle.split.specs.Fours.{FoursLent}
@@ -94,10 +98,20 @@ module _ {N : ℕ} {T out ring work1 work2 work3 work4 : List ℕ}
   writable : {work1′ : List ℕ} → length work1′ ≡ length work1 → FoursLent (triangles T) T work1′ out
   writable e = record { whole = whole; numbered = omega (arith, E .fits .1 .1 .0); room = E .fits .0 }
 
-  -- the vertices of the splitting can be counted
-  counted : {ring′ numbers : List ℕ} {count : ℕ} → RingBy (3 * triangles T) (firstOn T) ring′
-      → Numbered N (3 * triangles T) ring′ count numbers → N + count < 65536
-  counted ringed M = omega (arith, E .sizes .few, E .sizes .low, edges-le T whole ringed M)
+  -- and `count_boundary`
+  countable : {ring′ : List ℕ} → length ring′ ≡ length ring → CountLent (3 * triangles T) ring′
+  countable e = record { small = omega (arith, E .sizes .few); room = omega (arith, E .fits .1 .0) }
+
+  -- and `split_counts`
+  splittable : {ring′ numbers : List ℕ} {edges boundary : ℕ} → RingBy (3 * triangles T) (firstOn T) ring′
+      → Numbered N (3 * triangles T) ring′ edges numbers → BoundaryCounted (3 * triangles T) ring′ boundary
+      → SplitCountsLent (record { vertices = N; triangles = triangles T; edges = edges; boundary = boundary })
+  splittable ringed M B = record {
+    vertices = omega (arith, E .sizes .low);
+    triangles = omega (arith, E .sizes .few);
+    edges = omega (arith, E .sizes .few, edges-le T whole ringed M);
+    boundary = omega (arith, E .sizes .few, B .few);
+  }
 
   module _ {ring′ : List ℕ} {number place : ℕ} (judged : MeshJudged N (triangles T) T ring′ number place) where
     -- a mesh that is not proper
@@ -110,18 +124,26 @@ module _ {N : ℕ} {T out ring work1 work2 work3 work4 : List ℕ}
         said refl refl
 
     -- one that is
-    accepting : {numbers out′ : List ℕ} {count : ℕ} {answer : Answer} → number ≡ 0
-        → Numbered N (3 * triangles T) ring′ count numbers
+    accepting : {numbers out′ : List ℕ} {edges boundary : ℕ} {counts : Counts} {answer : Answer} → number ≡ 0
+        → Numbered N (3 * triangles T) ring′ edges numbers
         → ((N : ℕ) → Tabulated (edgeNo N T) (3 * triangles T) numbers → out′ ≡ written (split N T) out)
-        → answer ≡ accepted (N + count) (4 * triangles T)
+        → BoundaryCounted (3 * triangles T) ring′ boundary
+        → counts ≡ splitCounts (record { vertices = N; triangles = triangles T; edges = edges; boundary = boundary })
+        → answer ≡ acceptedCounts counts
         → SplitsMesh N T out (ring ∷ work1 ∷ work2 ∷ work3 ∷ work4 ∷ []) answer out′
-    accepting e M wrote said =
+    accepting e M wrote B counted said =
         Splits.accepts
-        (passed-both (splitSizeRules N (length T) _) (meshRules N T) (E .passed)
-        (judged-passed (judged .verdict) e (omega arith)))
-        (said ∙ ap (λ edges. accepted (N + edges) (4 * triangles T)) (M .total T whole (judged .ringed e)))
-        (wrote N (M .number T whole (judged .ringed e)))
+        (passed-both (splitSizeRules N (length T) _) (meshRules N T) (E .passed) passed)
+        (said ∙ ap acceptedCounts (counted ∙ ap splitCounts (counts-same refl refl
+        (M .total T whole ringed) (B .total T whole ringed)) ∙ split-counted (passed-proper N T whole passed)))
+        (wrote N (M .number T whole ringed))
         refl
+      where
+        ringed : RingBy (3 * triangles T) (firstOn T) ring′
+        ringed = judged .ringed e
+
+        passed : Passed (meshRules N T)
+        passed = judged-passed (judged .verdict) e (omega arith)
 
 -- ---- from each call to the one before
 
@@ -140,11 +162,14 @@ left c = c .before .before
 abbrev numbered : tie.After-write-fours-arg2 → tie.After-number-edges
 numbered c = c .before .before .before .before
 
-abbrev writing : tie.After-accepted → tie.After-write-fours
-writing c = c .before .before .before
+abbrev writing : tie.After-count-boundary → tie.After-write-fours
+writing c = c .before .before .before .before
+
+abbrev counting : tie.After-accepted → tie.After-count-boundary
+counting c = c .before .before
 
 abbrev judging : tie.After-accepted → tie.After-judge
-judging c = judged (left (numbered (writing c .before) .before) .before)
+judging c = judged (left (numbered (writing (counting c) .before) .before) .before)
 
 -- past the first test, sizes and room are enough
 ready : (c : tie.Else1)
@@ -205,34 +230,38 @@ write-fours-requires c κs =
     let j = judged (left (n .before) .before) in
     writable (ready (unrefused (j .before))) (n .number-edges .kept .1 .1 .1 .0 ∙ j .judge .kept .1 .1 .1 .1 .0)
 
-add-accepted : tie.Need-add-accepted
-add-accepted c =
-    let n = numbered (c .before .before .before) in
-    let l = left (n .before) in
-    let j = judged (l .before) in
-    omega (
-      arith,
-      counted (ready (unrefused (j .before))) (j .judge .ensures .ringed (l .if2 .left)) (n .number-edges .ensures),
-    )
-
-mul-accepted : tie.Need-mul-accepted
-mul-accepted c =
-    let n = numbered (c .before .before .before) in
+mul-count-boundary : tie.Need-mul-count-boundary
+mul-count-boundary c =
+    let n = numbered (c .before .before .before .before) in
     let j = judged (left (n .before) .before) in
     omega (arith, ready (unrefused (j .before)) .sizes .few)
+
+count-boundary-requires : tie.Need-count-boundary-requires
+count-boundary-requires c κs =
+    let n = numbered (c .before .before .before .before) in
+    let j = judged (left (n .before) .before) in
+    countable (ready (unrefused (j .before))) (j .judge .kept .1 .1 .1 .0)
+
+split-counts-requires : tie.Need-split-counts-requires
+split-counts-requires c κs =
+    let n = numbered (writing c .before) in
+    let l = left (n .before) in
+    let j = judged (l .before) in
+    splittable (ready (unrefused (j .before))) (j .judge .ensures .ringed (l .if2 .left)) (n .number-edges .ensures)
+    (c .count-boundary .ensures)
 
 accepted-requires : tie.Need-accepted-requires
 accepted-requires c κs = tt
 
 same-length-6 : tie.Need-same-length-6
-same-length-6 c = writing c .write-fours .kept .1 .1 .1 .0
+same-length-6 c = writing (counting c) .write-fours .kept .1 .1 .1 .0
 
 same-length-7 : tie.Need-same-length-7
 same-length-7 c = judging c .judge .kept .1 .1 .1 .0
 
 same-length-8 : tie.Need-same-length-8
 same-length-8 c =
-    numbered (writing c .before) .number-edges .kept .1 .1 .1 .0 ∙ judging c .judge .kept .1 .1 .1 .1 .0
+    numbered (writing (counting c) .before) .number-edges .kept .1 .1 .1 .0 ∙ judging c .judge .kept .1 .1 .1 .1 .0
 
 same-length-9 : tie.Need-same-length-9
 same-length-9 c = judging c .judge .kept .1 .1 .1 .1 .1 .0
@@ -245,12 +274,13 @@ same-length-11 c = judging c .judge .kept .1 .1 .1 .1 .1 .1 .1 .0
 
 returns-3 : tie.Need-returns-3
 returns-3 c =
-    let w = writing c in
+    let b = counting c in
+    let w = writing b in
     let n = numbered (w .before) in
     let l = left (n .before) in
     let j = judged (l .before) in
     accepting (ready (unrefused (j .before))) (j .judge .ensures) (l .if2 .left) (n .number-edges .ensures)
-    (w .write-fours .ensures) (c .accepted .ensures)
+    (w .write-fours .ensures) (b .count-boundary .ensures) (c .before .split-counts .ensures) (c .accepted .ensures)
 
 pub split-mesh-spec : {M : Type 1} → statement M
 split-mesh-spec =
@@ -269,8 +299,9 @@ split-mesh-spec =
     mul-number-edges
     number-edges-requires
     write-fours-requires
-    add-accepted
-    mul-accepted
+    mul-count-boundary
+    count-boundary-requires
+    split-counts-requires
     accepted-requires
     same-length-6
     same-length-7

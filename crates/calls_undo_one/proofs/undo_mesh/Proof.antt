@@ -9,9 +9,9 @@ use Rattle.theory.specs.Refusals.{meshRules, Passed}
 use Rattle.limits.proofs.Judgement.{judged-passed}
 use Rattle.undo_role.specs.Buffers.{Buffers, buffers}
 use Rattle.undo_role.proofs.Rooms.{SameLengths, kept-on}
-use Rattle.calls_undo_one.proofs.Housed.{judgeable}
-use Rattle.calls_undo_one.proofs.UndoneMesh.{refusing-sizes, lent-housed, refusing, uneven}
-use Rattle.calls_undo_one.proofs.UndoneMesh.{coverable, choosable, writable, concluding}
+use Rattle.calls_undo_one.proofs.Housed.{housed-kept, judgeable, countable}
+use Rattle.calls_undo_one.proofs.UndoneMesh.{refusing-sizes, lent-housed, boundary-told, refusing, uneven}
+use Rattle.calls_undo_one.proofs.UndoneMesh.{coverable, choosable, writable, answerable, concluding}
 use Rattle.calls_undo_one.proofs.undo_mesh.Statement.{statement}
 use Rattle.calls_undo_one.proofs.undo_mesh.Tie as tie
 
@@ -31,9 +31,13 @@ left1 c = c .before .before .before .before .before .before
 abbrev judging : tie.After-struct-known → tie.After-judge
 judging c = c .before .before .before .before .before .before .before .before .before .before .before
 
+-- the counting of the boundary edges
+abbrev counting : tie.After-cover → tie.After-count-boundary
+counting c = c .before .before .before .before .before .before .before .before
+
 -- the test of the triangles
 abbrev left3 : tie.After-cover → tie.Else3
-left3 c = c .before .before .before .before .before .before .before .before
+left3 c = counting c .before .before
 
 -- the covering mesh
 abbrev covering : tie.After-chosen-role → tie.After-cover
@@ -208,9 +212,20 @@ returns-3 c =
     uneven (entry l .pre) (l .if1 .left) (passed (c .before .before)) (no-fourths (c .before))
     (c .refused-one3 .ensures)
 
+mul-count-boundary : tie.Need-mul-count-boundary
+mul-count-boundary c =
+    let l = left1 (judging (c .before .before .before)) in
+    omega (arith, lent-housed (entry l .pre) (l .if1 .left) .sizes .few)
+
+count-boundary-requires : tie.Need-count-boundary-requires
+count-boundary-requires c κs =
+    let j = judging (c .before .before .before) in
+    let l = left1 j in
+    countable (housed-kept (judge-kept j) (lent-housed (entry l .pre) (l .if1 .left)))
+
 cover-requires : tie.Need-cover-requires
 cover-requires c κs =
-    let judged-well = c .before .before .before .before .before .before .before .before in
+    let judged-well = c .before .before .before .before .before .before .before .before .before .before in
     let j = judging (judged-well .before) in
     let l = left1 j in
     coverable (entry l .pre) (l .if1 .left) (judge-kept j) (passed judged-well)
@@ -232,7 +247,12 @@ write-reading-requires c κs =
     writable (entry l .pre) (l .if1 .left) (choice-kept r) (passed (left3 v .before)) (r .chosen-role .ensures)
 
 answer-taken-requires : tie.Need-answer-taken-requires
-answer-taken-requires c κs = tt
+answer-taken-requires c κs =
+    let w = c .before .before .before .before .before .before in
+    let r = choosing w in
+    let v = covering r in
+    let l = left1 (judged v) in
+    answerable (entry l .pre) (l .if1 .left) (choice-kept r) (passed (left3 v .before)) (r .chosen-role .ensures)
 
 same-length-11 : tie.Need-same-length-11
 same-length-11 c = writing c .write-reading .kept .1 .1 .1 .1 .1 .1 .0
@@ -275,9 +295,14 @@ returns-4 c =
     let w = writing c in
     let r = choosing w in
     let v = covering r in
-    let l = left1 (judged v) in
-    concluding (entry l .pre) (l .if1 .left) (choice-kept r) (passed (left3 v .before)) (r .chosen-role .ensures)
-    (w .write-reading .ensures) (c .answer-taken .ensures)
+    let judged-well = left3 v .before in
+    let j = judged v in
+    let l = left1 j in
+    concluding (entry l .pre) (l .if1 .left) (choice-kept r) (passed judged-well) (r .chosen-role .ensures)
+    (w .write-reading .ensures)
+    (boundary-told (entry l .pre) (l .if1 .left) (counting v .count-boundary .ensures)
+    (j .judge .ensures .ringed (judged-well .if2 .left)))
+    (c .answer-taken .ensures)
 
 pub undo-mesh-spec : {M : Type 1} → statement M
 undo-mesh-spec =
@@ -300,6 +325,8 @@ undo-mesh-spec =
     same-length-9
     same-length-10
     returns-3
+    mul-count-boundary
+    count-boundary-requires
     cover-requires
     chosen-role-requires
     write-reading-requires

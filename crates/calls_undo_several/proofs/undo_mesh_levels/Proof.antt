@@ -1,12 +1,15 @@
 -- `calls_undo_several::undo_mesh_levels` meets its contract: what 1 to 5 and `judge` refuse is refused, and else the
 -- levels are undone from a copy of the list. Every slice keeps its length.
 use native.Mathlib.Omega.{arith}
+use Prim.Native.Nat.{_*_, _<_}
 use mathlib.Core.Path.{refl, _∙_}
+use Rattle.theory.specs.Mesh.{triangles}
 use Rattle.theory.specs.Refusals.{meshRules, Passed}
 use Rattle.limits.proofs.Judgement.{judged-passed}
 use Rattle.undo_role.specs.Buffers.{Buffers, buffers}
 use Rattle.undo_role.proofs.Rooms.{SameLengths, kept-on}
-use Rattle.calls_undo_one.proofs.Housed.{judgeable}
+use Rattle.mesh_counts.specs.Counts.{CountLent}
+use Rattle.calls_undo_one.proofs.Housed.{housed-kept, judgeable, countable}
 use Rattle.calls_undo_several.proofs.UndoneLevels.{refusing-sizes, lent-housed, refusing}
 use Rattle.calls_undo_several.proofs.UndoneLevels.{list-copied, levels-lent, accepting}
 use Rattle.calls_undo_several.proofs.undo_mesh_levels.Statement.{statement}
@@ -26,9 +29,17 @@ left1 c = c .before .before .before .before .before .before
 abbrev judging : tie.After-struct-known → tie.After-judge
 judging c = c .before .before .before .before .before .before .before .before .before .before .before
 
+-- the counting of the boundary edges
+abbrev bounded : tie.After-copy → tie.After-count-boundary
+bounded p = p .before .before
+
+-- the counting of the edges
+abbrev edged : tie.After-copy → tie.After-count-edges
+edged p = bounded p .before .before
+
 -- the test of the verdict
 abbrev left2 : tie.After-copy → tie.Else2
-left2 p = p .before .before
+left2 p = edged p .before .before
 
 -- the judgement before the copy
 abbrev judged : tie.After-copy → tie.After-judge
@@ -65,12 +76,12 @@ afterJudge j =
 -- after the levels
 abbrev afterLevels : tie.After-undo-levels → Buffers
 afterLevels u =
-    buffers (u .undo-levels .last .1 .1 .1 .1 .1 .0) (u .undo-levels .last .1 .1 .1 .1 .1 .1 .0)
-    (u .undo-levels .last .1 .1 .1 .1 .1 .1 .1 .0) (u .undo-levels .last .1 .1 .1 .1 .1 .1 .1 .1 .0)
-    (u .undo-levels .last .1 .1 .1 .1 .1 .1 .1 .1 .1 .0) (u .undo-levels .last .1 .1 .1 .1 .1 .1 .1 .1 .1 .1 .0)
+    buffers (u .undo-levels .last .1 .1 .1 .1 .0) (u .undo-levels .last .1 .1 .1 .1 .1 .0)
+    (u .undo-levels .last .1 .1 .1 .1 .1 .1 .0) (u .undo-levels .last .1 .1 .1 .1 .1 .1 .1 .0)
+    (u .undo-levels .last .1 .1 .1 .1 .1 .1 .1 .1 .0) (u .undo-levels .last .1 .1 .1 .1 .1 .1 .1 .1 .1 .0)
+    (u .undo-levels .last .1 .1 .1 .1 .1 .1 .1 .1 .1 .1 .0)
     (u .undo-levels .last .1 .1 .1 .1 .1 .1 .1 .1 .1 .1 .1 .0)
     (u .undo-levels .last .1 .1 .1 .1 .1 .1 .1 .1 .1 .1 .1 .1 .0)
-    (u .undo-levels .last .1 .1 .1 .1 .1 .1 .1 .1 .1 .1 .1 .1 .1 .0)
 
 -- the judgement keeps their lengths
 judge-kept : (j : tie.After-judge) → SameLengths (lent (entry (left1 j))) (afterJudge j)
@@ -89,15 +100,15 @@ judge-kept j = record {
 -- so do the levels
 levels-kept : (u : tie.After-undo-levels) → SameLengths (lent (entry (left1 (judged (copying u))))) (afterLevels u)
 levels-kept u = kept-on (judge-kept (judged (copying u))) (record {
-  other = u .undo-levels .kept .1 .1 .1 .1 .1 .0;
-  rows = u .undo-levels .kept .1 .1 .1 .1 .1 .1 .0;
-  ring = u .undo-levels .kept .1 .1 .1 .1 .1 .1 .1 .0;
-  marks = u .undo-levels .kept .1 .1 .1 .1 .1 .1 .1 .1 .0;
-  coarse = u .undo-levels .kept .1 .1 .1 .1 .1 .1 .1 .1 .1 .0;
-  numbers = u .undo-levels .kept .1 .1 .1 .1 .1 .1 .1 .1 .1 .1 .0;
-  map = u .undo-levels .kept .1 .1 .1 .1 .1 .1 .1 .1 .1 .1 .1 .0;
-  faces = u .undo-levels .kept .1 .1 .1 .1 .1 .1 .1 .1 .1 .1 .1 .1 .0;
-  table = u .undo-levels .kept .1 .1 .1 .1 .1 .1 .1 .1 .1 .1 .1 .1 .1 .0;
+  other = u .undo-levels .kept .1 .1 .1 .1 .0;
+  rows = u .undo-levels .kept .1 .1 .1 .1 .1 .0;
+  ring = u .undo-levels .kept .1 .1 .1 .1 .1 .1 .0;
+  marks = u .undo-levels .kept .1 .1 .1 .1 .1 .1 .1 .0;
+  coarse = u .undo-levels .kept .1 .1 .1 .1 .1 .1 .1 .1 .0;
+  numbers = u .undo-levels .kept .1 .1 .1 .1 .1 .1 .1 .1 .1 .0;
+  map = u .undo-levels .kept .1 .1 .1 .1 .1 .1 .1 .1 .1 .1 .0;
+  faces = u .undo-levels .kept .1 .1 .1 .1 .1 .1 .1 .1 .1 .1 .1 .0;
+  table = u .undo-levels .kept .1 .1 .1 .1 .1 .1 .1 .1 .1 .1 .1 .1 .0;
 })
 
 -- past the second test 6 to 10 are passed
@@ -105,6 +116,19 @@ passed : (l : tie.Else2)
     → let s = entry (left1 (judging (l .before))) in
     Passed (meshRules (s .args .vertices) (s .args .list .now))
 passed l = judged-passed (judging (l .before) .judge .ensures .verdict) (l .if2 .left) (omega arith)
+
+-- past the first, the mesh has few half-edges
+few : (j : tie.After-judge) → 3 * triangles (entry (left1 j) .args .list .now) < 65536
+few j =
+    let l = left1 j in
+    omega (arith, lent-housed (entry l .pre) (l .if1 .left) .sizes .few)
+
+-- and the counting of its edges has what it requires
+ring-countable : (j : tie.After-judge)
+    → CountLent (3 * triangles (entry (left1 j) .args .list .now)) (afterJudge j .ring)
+ring-countable j =
+    let l = left1 j in
+    countable (housed-kept (judge-kept j) (lent-housed (entry l .pre) (l .if1 .left)))
 
 -- ---- the answers
 
@@ -147,14 +171,24 @@ returns-2 c =
     refusing (entry l .pre) (l .if1 .left) (j .judge .ensures) (c .before .if2 .taken)
     (c .refused-several2 .ensures)
 
+mul-count-edges : tie.Need-mul-count-edges
+mul-count-edges c = omega (arith, few (judging (c .before .before)))
+
+count-edges-requires : tie.Need-count-edges-requires
+count-edges-requires c κs = ring-countable (judging (c .before .before))
+
+mul-count-boundary : tie.Need-mul-count-boundary
+mul-count-boundary c = omega (arith, few (judging (c .before .before .before .before)))
+
+count-boundary-requires : tie.Need-count-boundary-requires
+count-boundary-requires c κs = ring-countable (judging (c .before .before .before .before))
+
 mul-copy : tie.Need-mul-copy
-mul-copy c =
-    let l = left1 (judging (c .before .before)) in
-    omega (arith, lent-housed (entry l .pre) (l .if1 .left) .sizes .few)
+mul-copy c = omega (arith, few (judging (c .before .before .before .before .before .before)))
 
 copy-requires : tie.Need-copy-requires
 copy-requires c κs =
-    let l = left1 (judging (c .before .before)) in
+    let l = left1 (judging (c .before .before .before .before .before .before)) in
     list-copied (entry l .pre) (l .if1 .left)
 
 undo-levels-requires : tie.Need-undo-levels-requires
@@ -166,17 +200,18 @@ undo-levels-requires c κs =
     levels-lent (entry l .pre) (l .if1 .left) (p .copy .ensures) (passed (left2 p)) (judge-kept j)
     (p .copy .kept .1 .0)
     (j .judge .ensures .ringed (left2 p .if2 .left))
+    (edged p .count-edges .ensures) (bounded p .count-boundary .ensures)
 
 accepted-several-requires : tie.Need-accepted-several-requires
 accepted-several-requires c κs = tt
 
 same-length-6 : tie.Need-same-length-6
-same-length-6 c = undoing c .undo-levels .kept .1 .1 .1 .1 .0
+same-length-6 c = undoing c .undo-levels .kept .1 .1 .1 .0
 
 same-length-7 : tie.Need-same-length-7
 same-length-7 c =
     let u = undoing c in
-    u .undo-levels .kept .1 .1 .1 .0 ∙ copying u .copy .kept .1 .0
+    u .undo-levels .kept .1 .1 .0 ∙ copying u .copy .kept .1 .0
 
 same-length-8 : tie.Need-same-length-8
 same-length-8 c = levels-kept (undoing c) .other
@@ -227,6 +262,10 @@ undo-mesh-levels-spec =
     same-length-4
     same-length-5
     returns-2
+    mul-count-edges
+    count-edges-requires
+    mul-count-boundary
+    count-boundary-requires
     mul-copy
     copy-requires
     undo-levels-requires

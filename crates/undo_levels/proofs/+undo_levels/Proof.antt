@@ -2,17 +2,19 @@
 -- itself as the mesh is lent to it, with one level less; what that call undoes and the level make all levels.
 use native.Mathlib.Omega.{arith}
 use Prim.Native.Nat.{ℕ, _*_, _<_}
-use mathlib.Core.Path.{refl, sym, subst}
+use mathlib.Core.Path.{refl, sym, ap, subst}
 use lib.ListN.{take}
 use borrow.Author.Needs.{needs}
 use borrow.Fn.Kinds.{In}
 use borrow.Fn.PlainCycle.{Measures, is, falls, and}
+use Rattle.answers.specs.declared.counts.Counts.{Counts}
 use Rattle.answers.specs.declared.taken.Taken.the-variants as taken
 use Rattle.undo_role.specs.Buffers.{Buffers, buffers}
 use Rattle.undo_role.proofs.Rooms.{SameLengths, kept-on}
 use Rattle.undo_level.specs.Level.{LevelTried}
 use Rattle.undo_levels.proofs.Levels.{levels-stop, levels-level, levels-reached, levels-stopped}
-use Rattle.undo_levels.proofs.Levels.{tried-coarser, levels-lent, levels-more, levels-undone}
+use Rattle.undo_levels.proofs.Levels.{tried-coarser, levels-kept, levels-lent, levels-more, levels-undone}
+use Rattle.answers.proofs.counts.coarse_counts.Reads as coarse
 use Rattle.answers.proofs.levels.one_more.Reads as more
 use Rattle.answers.proofs.levels.stop.Reads as stop
 use Rattle.undo_level.proofs.undo_least.Reads as least
@@ -35,8 +37,18 @@ below t = and 11 kinds.ps (falls 11 kinds.ps _<_ μ t) levels.Pre
 
 -- the contracts of the calls
 abbrev calls : ℕ → lts.Claims
-calls t =
-    (stop.Asked, stop.Learnt, least.Asked, least.Learnt, below t, levels.Post, more.Asked, more.Learnt)
+calls t = (
+  stop.Asked,
+  stop.Learnt,
+  least.Asked,
+  least.Learnt,
+  coarse.Asked,
+  coarse.Learnt,
+  below t,
+  levels.Post,
+  more.Asked,
+  more.Learnt,
+)
 
 module _ (t : ℕ) where
   -- ---- from each place to the one before
@@ -60,9 +72,12 @@ module _ (t : ℕ) where
       c .before .before .before .before .before .before .before .before .before .before .before .before .before
       .before .before .before .before .before .before .before .before
 
-  abbrev going-on : lts.After-undo-levels (calls t) (given t) levels.Post → lts.After-known-told (calls t) (given t) levels.Post
-  going-on c =
+  abbrev counting : lts.After-undo-levels (calls t) (given t) levels.Post → lts.After-coarse-counts (calls t) (given t) levels.Post
+  counting c =
       c .before .before .before .before .before .before .before .before .before .before .before .before
+
+  abbrev going-on : lts.After-undo-levels (calls t) (given t) levels.Post → lts.After-known-told (calls t) (given t) levels.Post
+  going-on c = counting c .before
 
   abbrev resting : lts.After-slice-known33 (calls t) (given t) levels.Post → lts.After-undo-levels (calls t) (given t) levels.Post
   resting c =
@@ -91,7 +106,7 @@ module _ (t : ℕ) where
   -- once the levels of the coarser mesh are undone, for which the list and the coarser mesh have changed places
   abbrev undone : lts.After-undo-levels (calls t) (given t) levels.Post → Buffers
   undone c =
-      let l = c .undo-levels .last .1 .1 .1 in
+      let l = c .undo-levels .last .1 .1 in
       buffers (l .1 .1 .0) (l .1 .1 .1 .0) (l .1 .1 .1 .1 .0) (l .1 .1 .1 .1 .1 .0) (l .0) (l .1 .1 .1 .1 .1 .1 .1 .0)
       (l .1 .1 .1 .1 .1 .1 .1 .1 .0) (l .1 .1 .1 .1 .1 .1 .1 .1 .1 .0) (l .1 .1 .1 .1 .1 .1 .1 .1 .1 .1 .0)
 
@@ -113,7 +128,7 @@ module _ (t : ℕ) where
 
   undone-kept : (c : lts.After-undo-levels (calls t) (given t) levels.Post) → SameLengths (lent (start (taking (going-on c)))) (undone c)
   undone-kept c =
-      let k = c .undo-levels .kept .1 .1 .1 in
+      let k = c .undo-levels .kept .1 .1 in
       kept-on (tried-kept (taking (going-on c)))
       (record {
         other = k .1 .1 .0;
@@ -133,7 +148,8 @@ module _ (t : ℕ) where
       → let s = start (taking c) .args in
       let b = tried (taking c) in
       let r = c .before .role .given .0 in
-      LevelTried (s .vertices) (s .triangles) (take (3 * s .triangles) (s .list .now)) (b .coarse) (b .ring)
+      LevelTried (s .counts .vertices) (s .counts .triangles) (take (3 * s .counts .triangles) (s .list .now))
+      (b .coarse) (b .ring)
       (taken.Reading (r .0) (r .1 .0) (r .1 .1 .0))
   level c = subst (LevelTried _ _ _ _ _) (c .before .role .given .1) (taking c .undo-least .ensures)
 
@@ -149,7 +165,7 @@ module _ (t : ℕ) where
   same-length c = refl
 
   same-length-2 : lts.Need-same-length-2 (calls t) (given t) levels.Post
-  same-length-2 c = c .before .before .stop .kept .1 .1 .1 .0
+  same-length-2 c = c .before .before .stop .kept .1 .1 .0
 
   returns : lts.Need-returns (calls t) (given t) levels.Post
   returns c =
@@ -186,7 +202,7 @@ module _ (t : ℕ) where
   same-length-3 c = refl
 
   same-length-4 : lts.Need-same-length-4 (calls t) (given t) levels.Post
-  same-length-4 c = c .before .before .stop2 .kept .1 .1 .1 .0
+  same-length-4 c = c .before .before .stop2 .kept .1 .1 .0
 
   same-length-5 : lts.Need-same-length-5 (calls t) (given t) levels.Post
   same-length-5 c = tried-kept (refusing (c .before .before .before .before .before)) .other
@@ -226,12 +242,17 @@ module _ (t : ℕ) where
   sub-undo-levels : lts.Need-sub-undo-levels (calls t) (given t) levels.Post
   sub-undo-levels c = omega (arith, passing (taking c) .if1 .left)
 
+  coarse-counts-requires : lts.Need-coarse-counts-requires (calls t) (given t) levels.Post
+  coarse-counts-requires c κs = levels-kept (start (taking c) .pre .1) (level c)
+
   undo-levels-requires : lts.Need-undo-levels-requires (calls t) (given t) levels.Post
   undo-levels-requires c κs =
-      let z = c .before .before .before .before .before .before .before .before .before .before .before in
+      let k = c .before .before .before .before .before .before .before .before .before .before .before in
+      let z = k .before in
       let v = taking z in (
         omega (arith, start v .pre .0, passing v .if1 .left),
-        levels-lent (start v .pre .1) (omega (arith, start v .pre .1 .few)) (tried-kept v) (level z),
+        levels-lent (start v .pre .1) (omega (arith, start v .pre .1 .few)) (tried-kept v) (level z)
+            (k .coarse-counts .ensures),
       )
 
   one-more-requires : lts.Need-one-more-requires (calls t) (given t) levels.Post
@@ -243,10 +264,10 @@ module _ (t : ℕ) where
       (u .undo-levels .ensures)
 
   same-length-14 : lts.Need-same-length-14 (calls t) (given t) levels.Post
-  same-length-14 c = resting (c .before) .undo-levels .kept .1 .1 .1 .1 .1 .1 .1 .1 .1 .0
+  same-length-14 c = resting (c .before) .undo-levels .kept .1 .1 .1 .1 .1 .1 .1 .1 .0
 
   same-length-15 : lts.Need-same-length-15 (calls t) (given t) levels.Post
-  same-length-15 c = resting (c .before) .undo-levels .kept .1 .1 .1 .1 .0
+  same-length-15 c = resting (c .before) .undo-levels .kept .1 .1 .1 .0
 
   same-length-16 : lts.Need-same-length-16 (calls t) (given t) levels.Post
   same-length-16 c = undone-kept (resting (c .before)) .other
@@ -279,8 +300,9 @@ module _ (t : ℕ) where
   returns-3 c =
       let u = resting (c .before) in
       let z = going-on u in
-      levels-undone (passing (taking z) .if1 .left) (tried-coarser (level z)) (u .undo-levels .ensures)
-      (c .one-more .ensures)
+      let e = counting u .coarse-counts .ensures in
+      levels-undone (passing (taking z) .if1 .left) (tried-coarser (level z)) (ap (λ (k : Counts). k .vertices) e)
+      (ap (λ (k : Counts). k .triangles) e) (u .undo-levels .ensures) (c .one-more .ensures)
 
 pub +undo-levels-spec : {M : Type 1} → statement M
 +undo-levels-spec =
@@ -309,6 +331,7 @@ pub +undo-levels-spec : {M : Type 1} → statement M
     (same-length-13 t)
     (returns-2 t)
     (sub-undo-levels t)
+    (coarse-counts-requires t)
     (undo-levels-requires t)
     (one-more-requires t)
     (same-length-14 t)

@@ -2,7 +2,7 @@
 -- else `write` writes the frames.
 use Prim.Native.Nat.{ℕ}
 use native.Mathlib.Omega.{arith}
-use mathlib.Core.Path.{_≡_, refl, ap}
+use mathlib.Core.Path.{_≡_, refl}
 use mathlib.Core.List.{List}
 use lib.ListN.{length}
 use borrow.Author.Needs.{needs}
@@ -12,7 +12,6 @@ use Rattle.theory.specs.Frames.{writeRules, refuses, accepts}
 use Rattle.theory.proofs.FrameDemands.{passed-writable}
 use Rattle.limits.specs.Judged.{Judged}
 use Rattle.limits.proofs.Judgement.{judged-passed, judged-refused}
-use Rattle.answers.specs.Answers.{asFrames}
 use Rattle.frames_write.specs.Putting.{WriteLent}
 use Rattle.frames_write.proofs.call.write_frames.Statement.{statement}
 use Rattle.frames_write.proofs.call.write_frames.Tie as tie
@@ -32,21 +31,21 @@ lendable N T out p =
 judge-write-size-requires : tie.Need-judge-write-size-requires
 judge-write-size-requires c κs = search needs
 
-refused-requires : tie.Need-refused-requires
-refused-requires c κs = search needs
+refused-frames-requires : tie.Need-refused-frames-requires
+refused-frames-requires c κs = search needs
 
 returns : tie.Need-returns
 returns c =
     refuses _ 0 (judged-refused (c .before .before .judge-write-size .ensures) (c .before .if1 .taken))
-    (ap asFrames (c .refused .ensures)) refl
+    (c .refused-frames .ensures) refl
 
 write-requires : tie.Need-write-requires
 write-requires c κs =
     let j = c .before .before in
     lendable _ _ _ (passed _ _ _ (j .judge-write-size .ensures) (c .before .if1 .left))
 
-accepted-requires : tie.Need-accepted-requires
-accepted-requires c κs = search needs
+accepted-frames-requires : tie.Need-accepted-frames-requires
+accepted-frames-requires c κs = search needs
 
 same-length : tie.Need-same-length
 same-length c = search needs
@@ -55,7 +54,7 @@ returns-2 : tie.Need-returns-2
 returns-2 c =
     let w = c .before .before .before in
     let l = w .before .before in
-    accepts (passed _ _ _ (l .before .judge-write-size .ensures) (l .if1 .left)) (ap asFrames (c .accepted .ensures))
+    accepts (passed _ _ _ (l .before .judge-write-size .ensures) (l .if1 .left)) (c .accepted-frames .ensures)
     (w .write .ensures)
 
 pub write-frames-spec : {M : Type 1} → statement M
@@ -63,9 +62,9 @@ write-frames-spec =
     tie.close
     (tie.spec
     judge-write-size-requires
-    refused-requires
+    refused-frames-requires
     returns
     write-requires
-    accepted-requires
+    accepted-frames-requires
     same-length
     returns-2)

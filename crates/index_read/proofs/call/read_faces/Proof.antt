@@ -1,14 +1,13 @@
 -- `index_read::call::read_faces` meets its contract: a verdict other than 0 on the numbers and the room is its answer,
 -- else the corners are written.
 use native.Mathlib.Omega.{arith}
-use mathlib.Core.Path.{refl, ap}
+use mathlib.Core.Path.{refl}
 use lib.ListN.{length}
 use borrow.Author.Needs.{needs}
 use Rattle.theory.specs.Refusals.{Passed}
 use Rattle.theory.specs.Index.{readIndexRules, refuses}
 use Rattle.limits.specs.Judged.{Judged}
 use Rattle.limits.proofs.Judgement.{judged-passed, judged-refused}
-use Rattle.answers.specs.Answers.{asFrames}
 use Rattle.index_read.proofs.Verdicts.{right-judged, corners-lent, right-read}
 use Rattle.index_read.proofs.call.read_faces.Statement.{statement}
 use Rattle.index_read.proofs.call.read_faces.Tie as tie
@@ -30,20 +29,20 @@ passed c = judged-passed (judged (c .before)) (c .if1 .left) (omega arith)
 judge-size-to-read-requires : tie.Need-judge-size-to-read-requires
 judge-size-to-read-requires c κs = search needs
 
-refused-requires : tie.Need-refused-requires
-refused-requires c κs = search needs
+refused-frames-requires : tie.Need-refused-frames-requires
+refused-frames-requires c κs = search needs
 
 returns : tie.Need-returns
 returns c =
     let t = c .before in
-    refuses _ 0 (judged-refused (judged (t .before)) (t .if1 .taken)) (ap asFrames (c .refused .ensures)) refl
+    refuses _ 0 (judged-refused (judged (t .before)) (t .if1 .taken)) (c .refused-frames .ensures) refl
 
 write-corners-requires : tie.Need-write-corners-requires
 write-corners-requires c κs =
     corners-lent (c .before .before .before .before .before .pre) _ _ (passed (c .before))
 
-accepted-requires : tie.Need-accepted-requires
-accepted-requires c κs = search needs
+accepted-frames-requires : tie.Need-accepted-frames-requires
+accepted-frames-requires c κs = search needs
 
 same-length : tie.Need-same-length
 same-length c = search needs
@@ -53,16 +52,16 @@ returns-2 c =
     let w = c .before .before .before in
     let p = w .before .before in
     right-read (p .before .before .before .before .pre) _ (passed p) (w .write-corners .ensures)
-    (ap asFrames (c .accepted .ensures))
+    (c .accepted-frames .ensures)
 
 pub read-faces-spec : {M : Type 1} → statement M
 read-faces-spec =
     tie.close
     (tie.spec
     judge-size-to-read-requires
-    refused-requires
+    refused-frames-requires
     returns
     write-corners-requires
-    accepted-requires
+    accepted-frames-requires
     same-length
     returns-2)

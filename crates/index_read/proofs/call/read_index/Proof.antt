@@ -1,9 +1,8 @@
 -- `index_read::call::read_index` meets its contract: each answer is made of the verdict on the text.
-use mathlib.Core.Path.{refl, ap}
+use mathlib.Core.Path.{refl}
 use borrow.Author.Needs.{needs}
 use Rattle.theory.specs.Index.{refuses}
 use Rattle.theory.proofs.IndexDemands.{fault-refused}
-use Rattle.answers.specs.Answers.{asFrames}
 use Rattle.index_read.proofs.Verdicts.{judged-right, judged-fault}
 use Rattle.index_read.proofs.call.read_index.Statement.{statement}
 use Rattle.index_read.proofs.call.read_index.Tie as tie
@@ -22,8 +21,8 @@ read-faces-requires c κs =
 enum-known-place : tie.Need-enum-known-place
 enum-known-place c = search needs
 
-refused-requires : tie.Need-refused-requires
-refused-requires c κs = search needs
+refused-frames-requires : tie.Need-refused-frames-requires
+refused-frames-requires c κs = search needs
 
 same-length : tie.Need-same-length
 same-length c = search needs
@@ -35,7 +34,7 @@ returns-2 : tie.Need-returns-2
 returns-2 c =
     let p = c .before .before in
     refuses _ _ (fault-refused _ _ _ _ (judged-fault (p .before .before .judge-text .ensures) (p .place .given .1)))
-    (ap asFrames (c .refused .ensures)) refl
+    (c .refused-frames .ensures) refl
 
 pub read-index-spec : {M : Type 1} → statement M
 read-index-spec =
@@ -45,7 +44,7 @@ read-index-spec =
     enum-known-triangles
     read-faces-requires
     enum-known-place
-    refused-requires
+    refused-frames-requires
     same-length
     returns
     returns-2)

@@ -1,0 +1,3 @@
+-- Laws for the proofs of the functions.
+pub mod Rings
+pub mod Turns

@@ -1,0 +1,2 @@
+-- What counting edges over their rings is lent, and what it comes to.
+pub mod Counts
