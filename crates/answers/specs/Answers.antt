@@ -10,42 +10,33 @@ use Rattle.answers.specs.declared.answers.SeveralAnswer.{SeveralAnswer}
 use Rattle.answers.specs.declared.answers.FramesAnswer.{FramesAnswer}
 use Rattle.answers.specs.declared.answers.TextAnswer.{TextAnswer}
 
+-- The six numbers that the answers of split and of the undos begin with.
+abbrev pub numbers : (refusal place vertices triangles edges boundary : ℕ) → promise.Answer
+numbers refusal place vertices triangles edges boundary = record {
+  refusal = refusal;
+  place = place;
+  vertices = vertices;
+  triangles = triangles;
+  edges = edges;
+  boundaryEdges = boundary;
+}
+
 -- The answer of split.
 abbrev pub answerOf : Answer → promise.Answer
-answerOf a = record {
-  refusal = a .refusal;
-  place = a .place;
-  vertices = a .vertices;
-  triangles = a .triangles;
-  edges = a .edges;
-  boundaryEdges = a .«boundary_edges»;
-}
+answerOf a =
+    numbers (a .refusal) (a .place) (a .vertices) (a .triangles) (a .edges) (a .«boundary_edges»)
 
 -- The answer of undo one.
 abbrev pub oneAnswerOf : OneAnswer → promise.OneAnswer
 oneAnswerOf a = record {
-  common = record {
-    refusal = a .refusal;
-    place = a .place;
-    vertices = a .vertices;
-    triangles = a .triangles;
-    edges = a .edges;
-    boundaryEdges = a .«boundary_edges»;
-  };
+  common = numbers (a .refusal) (a .place) (a .vertices) (a .triangles) (a .edges) (a .«boundary_edges»);
   role = a .role;
 }
 
 -- The answer of undo several.
 abbrev pub severalAnswerOf : SeveralAnswer → promise.SeveralAnswer
 severalAnswerOf a = record {
-  common = record {
-    refusal = a .refusal;
-    place = a .place;
-    vertices = a .vertices;
-    triangles = a .triangles;
-    edges = a .edges;
-    boundaryEdges = a .«boundary_edges»;
-  };
+  common = numbers (a .refusal) (a .place) (a .vertices) (a .triangles) (a .edges) (a .«boundary_edges»);
   levels = a .levels;
   roles = a .roles;
 }
