@@ -544,7 +544,7 @@ module _ (N : ℕ) (T : List ℕ) (P : OtherwiseProper N T) where
       let q : 3 * suc j ≡ 3 * j + 3 = omega arith in
       rw (p, q) (omega (arith, more, few, twelve-count j (omega arith), halves-count j (omega arith)))
 
-  -- the splitting has twice as many boundary edges: "a fine boundary edge is half of a coarse one"
+  -- the splitting has twice as many boundary edges: each is half of a coarse one
   pub split-boundary : boundaryEdges (split N T) ≡ 2 * boundaryEdges T
   unfolding boundaryEdges
   split-boundary =
