@@ -24,7 +24,7 @@ use Rattle.answers.specs.Counts.{coarseCounts}
 use Rattle.answers.specs.Taken.{readingIn, centresOf, keptOf, ReadingLent, leftBy, answerToReading, answerTo}
 use Rattle.answers.proofs.Counted.{kept-at-most, coarse-counted}
 use Rattle.mesh_rings.specs.Ring.{RingBy}
-use Rattle.mesh_counts.specs.Counts.{BoundaryCounted}
+use Rattle.mesh_counts.specs.Counts.{CountOf}
 use Rattle.mesh_judge.specs.Judging.{MeshJudged}
 use Rattle.undo_cover.specs.Cover.{CoverLent, CoverMade}
 use Rattle.undo_role.specs.Buffers.{Buffers, Rooms}
@@ -57,7 +57,7 @@ module _ {number N : ℕ} {T : List ℕ} {asked : ℕ} {out : Outputs} {b₀ : B
   lent-housed = housed (sizes .sizes) (sizes .fits .1 .1 .1)
 
   -- what is counted over the mesh's rings are its boundary edges
-  pub boundary-told : {ring : List ℕ} {boundary : ℕ} → BoundaryCounted (3 * triangles T) ring boundary
+  pub boundary-told : {ring : List ℕ} {boundary : ℕ} → CountOf boundaryEdges (3 * triangles T) ring boundary
       → RingBy (3 * triangles T) (firstOn T) ring → boundary ≡ boundaryEdges T
   boundary-told B ringed = B .total T (omega (arith, sizes .sizes .threes)) ringed
 

@@ -9,7 +9,7 @@ use lib.ListN.{length, take, drop}
 use lib.Seq.{take-length}
 use Rattle.theory.specs.Limits.{mostLevels}
 use Rattle.theory.specs.Mesh.{triangles}
-use Rattle.theory.specs.Splitting.{firstOn}
+use Rattle.theory.specs.Splitting.{firstOn, edges, boundaryEdges}
 use Rattle.theory.specs.Refusals.{meshRules, Passed}
 use Rattle.theory.specs.Calls.{SeveralAnswer, severalRefusal, undoSeveralSizeRules, lentToUndoSeveral, refuses, accepts}
 use Rattle.theory.proofs.Refusals.{passed-both, refused-by-front, refused-by-back}
@@ -20,7 +20,7 @@ use Rattle.answers.specs.Counts.{acceptedCounts}
 use Rattle.answers.specs.Levels.{answerToLevels}
 use Rattle.answers.proofs.Counted.{counts-same}
 use Rattle.mesh_rings.specs.Ring.{RingBy}
-use Rattle.mesh_counts.specs.Counts.{EdgesCounted, BoundaryCounted}
+use Rattle.mesh_counts.specs.Counts.{CountOf}
 use Rattle.mesh_judge.specs.Judging.{MeshJudged}
 use Rattle.undo_role.specs.Buffers.{Buffers}
 use Rattle.undo_role.proofs.Rooms.{SameLengths, rooms-kept}
@@ -80,15 +80,15 @@ module _ {number N : ℕ} {T : List ℕ} {asked : ℕ} {out current : List ℕ} 
         ∙ ap (λ (n : ℕ). take n T) (sym listed) ∙ take-length T
 
     -- what `undo_levels` requires
-    pub levels-lent : {edges boundary : ℕ} {b : Buffers} → SameLengths b₀ b → length current′ ≡ length current
-        → RingBy (3 * triangles T) (firstOn T) (b .ring) → EdgesCounted (3 * triangles T) (b .ring) edges
-        → BoundaryCounted (3 * triangles T) (b .ring) boundary
-        → LevelsLent asked (record { vertices = N; triangles = triangles T; edges = edges; boundary = boundary })
+    pub levels-lent : {E B : ℕ} {b : Buffers} → SameLengths b₀ b → length current′ ≡ length current
+        → RingBy (3 * triangles T) (firstOn T) (b .ring) → CountOf edges (3 * triangles T) (b .ring) E
+        → CountOf boundaryEdges (3 * triangles T) (b .ring) B
+        → LevelsLent asked (record { vertices = N; triangles = triangles T; edges = E; boundary = B })
         current′ out b
-    levels-lent K kept ringed E B = record {
+    levels-lent K kept ringed p q = record {
       few = sizes .known;
       level = rw copied-list (record { mesh = undoable lent-housed passed; ringed = ringed });
-      counted = rw copied-list (counts-same refl refl (E .total T listed ringed) (B .total T listed ringed));
+      counted = rw copied-list (counts-same refl refl (p .total T listed ringed) (q .total T listed ringed));
       listRoom = record { room = omega (arith, sizes .fits .1 .0, kept) };
       outRoom = sizes .fits .0;
       rooms = rooms-kept (omega arith) (lent-housed .rooms) K;

@@ -1,36 +1,13 @@
--- What a test counts for, and the invariant of both loops: of the half-edges before h, so many pass a test.
+-- The invariant of both loops: of the half-edges before h, so many pass a test.
 use Prim.Native.Nat.{ℕ, _+_, _≤_, _<_}
 use native.Mathlib.Numerals.{add-one}
 use native.Mathlib.Omega.{arith}
 use mathlib.Core.Path.{_≡_, refl, sym, ap, ap₂, _∙_}
-use mathlib.Core.Logic.{_≢_}
 use mathlib.Core.Bool.{Bool}
 use mathlib.Core.List.{List}
-use lib.Dec.{leb, leb→le, le→leb, eqb, eqb→eq}
 use Rattle.theory.specs.Counting.{bit, count}
-use Rattle.theory.proofs.Tests.{eq→eqb}
-use Rattle.theory.proofs.Counting.{bit-le, bit-passes, bit-fails, count-le}
+use Rattle.theory.proofs.Counting.{bit-le, count-le}
 use Rattle.mesh_counts.specs.Counts.{CountLent}
-
--- ---- tests of numbers
-
--- what is not above counts for one
-pub bit-le-one : (a b : ℕ) → a ≤ b → 1 ≡ bit (leb a b)
-bit-le-one a b l = sym (bit-passes (leb a b) (le→leb a b l))
-
--- what is above counts for nothing
-pub bit-le-none : (a b : ℕ) → b < a → 0 ≡ bit (leb a b)
-bit-le-none a b l = sym (bit-fails (leb a b) (λ t. absurd (omega (arith, leb→le a b t))))
-
--- what is equal counts for one
-pub bit-eq-one : (a b : ℕ) → a ≡ b → 1 ≡ bit (eqb a b)
-bit-eq-one a b e = sym (bit-passes (eqb a b) (eq→eqb a b e))
-
--- what differs counts for nothing
-pub bit-eq-none : (a b : ℕ) → a ≢ b → 0 ≡ bit (eqb a b)
-bit-eq-none a b n = sym (bit-fails (eqb a b) (λ t. n (eqb→eq a b t)))
-
--- ---- the invariant
 
 -- of the first h of n half-edges, c pass
 pub record Turn (test : ℕ → Bool) (n : ℕ) (ring : List ℕ) (c h : ℕ) : Type 0 where

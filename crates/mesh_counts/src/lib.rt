@@ -4,13 +4,14 @@
 ghost use mathlib.Core.Path.{_≡_};
 ghost use lib.Dec.{leb, eqb};
 ghost use Rattle.theory.specs.Counting.{bit};
-ghost use Rattle.mesh_counts.specs.Counts.{CountLent, EdgesCounted, BoundaryCounted};
+ghost use Rattle.theory.specs.Splitting.{edges, boundaryEdges};
+ghost use Rattle.mesh_counts.specs.Counts.{CountLent, CountOf};
 
 // How many edges the first `halves` half-edges are on, where `ring` has the rings of the edges: each edge has one last
 // half-edge, from which the ring leads back.
 pub fn count_edges(ring: &[u16], halves: usize) -> usize
     requires { ⌜ CountLent halves (now ring) ⌝ }
-    ensures { λ r. ⌜ EdgesCounted halves (now (ring .entry)) r ⌝ }
+    ensures { λ r. ⌜ CountOf edges halves (now (ring .entry)) r ⌝ }
 {
     let mut edges: u16 = 0;
     let mut h = 0;
@@ -24,7 +25,7 @@ pub fn count_edges(ring: &[u16], halves: usize) -> usize
 // How many of these are boundary edges: the half-edge of one triangle is alone on its ring.
 pub fn count_boundary(ring: &[u16], halves: usize) -> usize
     requires { ⌜ CountLent halves (now ring) ⌝ }
-    ensures { λ r. ⌜ BoundaryCounted halves (now (ring .entry)) r ⌝ }
+    ensures { λ r. ⌜ CountOf boundaryEdges halves (now (ring .entry)) r ⌝ }
 {
     let mut edges: u16 = 0;
     let mut h = 0;

@@ -8,7 +8,7 @@ use mathlib.Core.List.{List, [], _∷_}
 use lib.ListN.{length}
 use Rattle.theory.specs.Limits.{mostSplitTriangles}
 use Rattle.theory.specs.Mesh.{triangles}
-use Rattle.theory.specs.Splitting.{firstOn, edgeNo, split}
+use Rattle.theory.specs.Splitting.{firstOn, boundaryEdges, edgeNo, split}
 use Rattle.theory.specs.Refusals.{Short, Passed, tooShort, sizeRules, meshRules}
 use Rattle.theory.specs.Calls.{Answer, refusal, written, splitSizeRules, lentToSplit, Splits}
 use Rattle.theory.proofs.Refusals.{Sized, sized, Fits, none-short-fits, not-given, passed-front}
@@ -19,7 +19,7 @@ use Rattle.answers.proofs.Counted.{counts-same, split-counted}
 use Rattle.lists.specs.Tables.{Tabulated}
 use Rattle.limits.proofs.Judgement.{judged-passed, judged-refused}
 use Rattle.mesh_rings.specs.Ring.{RingBy}
-use Rattle.mesh_counts.specs.Counts.{CountLent, BoundaryCounted}
+use Rattle.mesh_counts.specs.Counts.{CountLent, CountOf}
 use Rattle.mesh_judge.specs.Judging.{JudgeLent, MeshJudged}
 use Rattle.split.specs.Numbers.{NumberLent, Numbered}
 use Rattle.split.specs.Fours.{FoursLent}
@@ -104,7 +104,7 @@ module _ {N : ℕ} {T out ring work1 work2 work3 work4 : List ℕ}
 
   -- and `split_counts`
   splittable : {ring′ numbers : List ℕ} {edges boundary : ℕ} → RingBy (3 * triangles T) (firstOn T) ring′
-      → Numbered N (3 * triangles T) ring′ edges numbers → BoundaryCounted (3 * triangles T) ring′ boundary
+      → Numbered N (3 * triangles T) ring′ edges numbers → CountOf boundaryEdges (3 * triangles T) ring′ boundary
       → SplitCountsLent (record { vertices = N; triangles = triangles T; edges = edges; boundary = boundary })
   splittable ringed M B = record {
     vertices = omega (arith, E .sizes .low);
@@ -127,7 +127,7 @@ module _ {N : ℕ} {T out ring work1 work2 work3 work4 : List ℕ}
     accepting : {numbers out′ : List ℕ} {edges boundary : ℕ} {counts : Counts} {answer : Answer} → number ≡ 0
         → Numbered N (3 * triangles T) ring′ edges numbers
         → ((N : ℕ) → Tabulated (edgeNo N T) (3 * triangles T) numbers → out′ ≡ written (split N T) out)
-        → BoundaryCounted (3 * triangles T) ring′ boundary
+        → CountOf boundaryEdges (3 * triangles T) ring′ boundary
         → counts ≡ splitCounts (record { vertices = N; triangles = triangles T; edges = edges; boundary = boundary })
         → answer ≡ acceptedCounts counts
         → SplitsMesh N T out (ring ∷ work1 ∷ work2 ∷ work3 ∷ work4 ∷ []) answer out′
