@@ -6,7 +6,9 @@
  * functions promise is proved; this header is outside of every proof, and is tested.
  *
  * A mesh is a number of vertices V and a list of 3F entries: triangle k has the corners list[3k], list[3k + 1] and
- * list[3k + 2], each a vertex number below V. There are no positions.
+ * list[3k + 2], each a vertex number below V. There are no positions. The order of the corners is the winding:
+ * (a, b, c), (b, c, a) and (c, a, b) go the same way round, and (a, c, b) the other. An undo asks that a triangle goes
+ * round as the other three of its split do; refusal 8 takes both ways for the same triangle.
  *
  * Rules that hold for every call:
  *
@@ -91,7 +93,8 @@ typedef struct flatcarol_text_answer {
 } flatcarol_text_answer;
 
 /* Refusals are checked in the order of their numbers, over the whole list: a 6 at the last triangle comes before a 7
-   at the first. The calls that read alone differ, see there. The place is 0 where none is named. */
+   at the first. The calls that read alone differ, see there, and 15 stands in the place of 11. The place is 0 where
+   none is named. */
 enum flatcarol_refusal {
     FLATCAROL_ACCEPTED = 0,
     FLATCAROL_ASKED_TOO_MUCH = 1,   /* asked above 4 (undo one) or above 7 (undo several) */
@@ -107,9 +110,12 @@ enum flatcarol_refusal {
     FLATCAROL_NO_READING = 11,      /* no reading in the role asked (asked 4: in any) */
     FLATCAROL_WRONG_FRAME = 12,     /* a frame not as required; place: least such line, from 0 */
     FLATCAROL_INPUT_TOO_LONG = 13,  /* program input above 16,384 bytes: given by the program unsplit, by no call */
-    FLATCAROL_WRONG_TEXT = 14       /* text not of this form, a corner above 65,535 or a face not of three corners;
+    FLATCAROL_WRONG_TEXT = 14,      /* text not of this form, a corner above 65,535 or a face not of three corners;
                                        place: first byte of the first run at fault, or the text's length if corners
                                        are missing */
+    FLATCAROL_INSIDE_OUT = 15       /* in place of 11: a role asked has a reading if winding is ignored, and none asked
+                                       has one with it; place: least triangle that goes the other way round than the
+                                       splitting has it, in the least such role */
 };
 
 /* The same words as text, for a message. */
@@ -131,6 +137,7 @@ static inline const char *flatcarol_refusal_text(uint64_t refusal)
     case FLATCAROL_WRONG_FRAME: return "a frame not as required";
     case FLATCAROL_INPUT_TOO_LONG: return "program input above 16,384 bytes";
     case FLATCAROL_WRONG_TEXT: return "text not of this form, a corner above 65,535 or a face not of three corners";
+    case FLATCAROL_INSIDE_OUT: return "a triangle inside out: a reading only if winding is ignored";
     default: return "no refusal has this number";
     }
 }
@@ -208,10 +215,10 @@ flatcarol_answer flatcarol_split(
     uint16_t *work4, size_t work4_len,
     uint16_t *work5, size_t work5_len);
 
-/* Undoes one split, in the role asked of triangle 0 (0 to 3) or in the least role that has a reading (4). The coarse
-   mesh goes to the first entries of mesh, which needs 3 times (F divided by 4, rounded down); to those of the maps,
-   which need V and F, goes the number that each vertex and each triangle has in the splitting of that mesh. Refusals 1
-   to 11. */
+/* Undoes one split, in the role asked of triangle 0 (0 to 3) or in the least role that has a reading (4). Each triangle
+   must go round as the splitting has it; with which of its corners it begins plays no part. The coarse mesh goes to the
+   first entries of mesh, which needs 3 times (F divided by 4, rounded down); to those of the maps, which need V and F,
+   goes the number that each vertex and each triangle has in the splitting of that mesh. Refusals 1 to 11 and 15. */
 flatcarol_one_answer flatcarol_undo_one(
     uint64_t vertices,
     const uint16_t *list, size_t list_len,
@@ -230,8 +237,8 @@ flatcarol_one_answer flatcarol_undo_one(
     uint16_t *work9, size_t work9_len);
 
 /* Undoes up to so many splits as asked, 0 to 7, each in the least role that has a reading. It stops where no role has
-   one: that is no refusal. The mesh that is left goes to the first entries of out, which needs 3F. Asked 0, that is the
-   list as it came, and the answer has its counts. Refusals 1 to 10. */
+   one, where undo one would give 11 or 15: that is no refusal. The mesh that is left goes to the first entries of out,
+   which needs 3F. Asked 0, that is the list as it came, and the answer has its counts. Refusals 1 to 10. */
 flatcarol_several_answer flatcarol_undo_several(
     uint64_t vertices,
     const uint16_t *list, size_t list_len,

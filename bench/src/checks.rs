@@ -5,8 +5,9 @@ use crate::cases::{
     UNDO_SEVERALS,
 };
 use crate::library::{Answer, OneAnswer, OneOutputs, SeveralAnswer};
-use crate::meshes::{self, edge_counts, splitting, Mesh, Several, MOST, MOST_TO_SPLIT, SIZES};
+use crate::meshes::{self, edge_counts, splitting, Mesh, Several, MOST, MOST_TO_SPLIT, SIZES, TURNED};
 use crate::text_checks::{check_text_refusals, check_texts};
+use std::collections::BTreeMap;
 
 // Those that do more than to read and write texts.
 const VERSIONS: std::ops::Range<usize> = 0..SPLITS.len();
@@ -15,6 +16,7 @@ pub fn check_all() {
     check_one_triangle();
     check_mesh_refusals();
     check_other_refusals();
+    check_windings();
     check_text_refusals();
     for size in SIZES {
         meshes::to_split(size).iter().for_each(check_split);
@@ -120,6 +122,33 @@ fn check_other_refusals() {
     }
 }
 
+// A split triangle with some of its four triangles turned, by hand: refused 15 at the least corner triangle that does not go round as
+// the centre, and else accepted; 11 in the roles that have no reading by either rule. Undo several stops at either.
+fn check_windings() {
+    let cases: [(&[usize], Option<u64>); 5] =
+        [(&[1], Some(1)), (&[3], Some(3)), (&[0], Some(1)), (&[2, 3], Some(2)), (&[0, 1, 2, 3], None)];
+    for (turned, place) in cases {
+        let (vertices, mut list) = splitting(3, &[0, 1, 2]);
+        turned.iter().for_each(|&triangle| list.swap(3 * triangle + 1, 3 * triangle + 2));
+        for version in VERSIONS {
+            for role in 1..LEAST {
+                check_undo_one_refused(version, vertices as u64, &list, role, (11, 0));
+            }
+            let Some(place) = place else {
+                let (mut out, mut work) = undo_one_buffers(vertices, &list);
+                let answer = UNDO_ONES[version](vertices as u64, &list, LEAST, &mut out, &mut work);
+                // The centre is (3, 5, 4), with 1 across 4-3, 0 across 3-5 and 2 across 5-4.
+                assert_eq!((answer.refusal, out.mesh), (0, vec![1, 0, 2]), "{} with all turned", NAMES[version]);
+                continue;
+            };
+            for asked in [0, LEAST] {
+                check_undo_one_refused(version, vertices as u64, &list, asked, (15, place));
+            }
+            check_levels(version, (vertices as u64, &list), MOST_LEVELS, no_level(vertices as u64, &list), &list);
+        }
+    }
+}
+
 // Of the work buffers, which the hashed version does not use.
 fn check_cleared(version: usize, work: &[Vec<u16>], what: &str) {
     let cleared = work.iter().flatten().all(|&entry| entry == 0);
@@ -181,9 +210,57 @@ fn check_undo_one(mesh: &Mesh) {
     for version in VERSIONS {
         let refused = if kept.is_empty() { 0..LEAST + 1 } else { 0..check_undone(version, mesh, &kept) };
         for asked in refused {
-            check_undo_one_refused(version, mesh.vertices as u64, &mesh.list, asked, (11, 0));
+            check_unread(version, mesh, asked);
         }
     }
+}
+
+// A mesh that has no reading in what is asked is refused 11; one with a triangle that is turned, which but for that has a reading in
+// each role, 15.
+fn check_unread(version: usize, mesh: &Mesh, asked: u64) {
+    let refusal = if mesh.name == TURNED { (15, turned_place(version, mesh, asked % LEAST)) } else { (11, 0) };
+    check_undo_one_refused(version, mesh.vertices as u64, &mesh.list, asked, refusal);
+}
+
+// The place by another way. With its triangles turned to go round as triangle 0 does, the mesh has a reading in the role: of that the
+// tiles are taken, and the least triangle that was turned where the centre of its tile was not, or was not where that was.
+fn turned_place(version: usize, mesh: &Mesh, role: u64) -> u64 {
+    let turned = against_first(&mesh.list);
+    let mut mended = mesh.clone();
+    for (k, _) in turned.iter().enumerate().filter(|(_, &turned)| turned) {
+        mended.list.swap(3 * k + 1, 3 * k + 2);
+    }
+    let tiles = undo_one_accepted(version, &mended, role).1.triangle_map;
+    let mut centres = vec![false; tiles.len() / 4];
+    for (&number, &turned) in tiles.iter().zip(&turned).filter(|(&number, _)| number % 4 == 0) {
+        centres[number as usize / 4] = turned;
+    }
+    let disagrees = |(&number, &turned): (&u16, &bool)| centres[number as usize / 4] != turned;
+    tiles.iter().zip(&turned).position(disagrees).expect("a triangle disagrees with its centre") as u64
+}
+
+// For each triangle of a surface with two sides whether it faces another side than triangle 0: neighbours that face the same run over
+// their edge in opposite directions.
+fn against_first(list: &[u16]) -> Vec<bool> {
+    let ends = |half: usize| (list[half], list[half - half % 3 + (half + 1) % 3]);
+    let mut halves_on: BTreeMap<(u16, u16), Vec<usize>> = BTreeMap::new();
+    for half in 0..list.len() {
+        let (v, w) = ends(half);
+        halves_on.entry((v.min(w), v.max(w))).or_default().push(half);
+    }
+    let mut against = vec![None; list.len() / 3];
+    let mut open = vec![(0, false)];
+    while let Some((k, is_against)) = open.pop() {
+        if against[k].is_none() {
+            against[k] = Some(is_against);
+            for half in 3 * k..3 * k + 3 {
+                let (v, w) = ends(half);
+                let on = halves_on[&(v.min(w), v.max(w))].iter().filter(|&&other| other != half);
+                open.extend(on.map(|&other| (other / 3, is_against != (ends(other) == (v, w)))));
+            }
+        }
+    }
+    against.into_iter().map(|against| against.expect("the mesh is connected")).collect()
 }
 
 // In the role that the splitting gave to triangle 0 the mesh that was split comes back. Answers the least role that has a reading,
@@ -218,11 +295,10 @@ fn undo_one_accepted(version: usize, mesh: &Mesh, asked: u64) -> (OneAnswer, One
         assert!(numbers.into_iter().eq(0..map.len() as u16), "{what}: a map does not take each number once");
     }
     for (t, &number) in mesh.list.chunks_exact(3).zip(&out.triangle_map) {
-        let mut corners = [t[0], t[1], t[2]].map(|corner| out.vertex_map[corner as usize]);
-        let mut expected: [u16; 3] = fours[3 * number as usize..][..3].try_into().unwrap();
-        corners.sort();
-        expected.sort();
-        assert_eq!(corners, expected, "{what}: a triangle is not that of the splitting");
+        let [a, b, c] = [t[0], t[1], t[2]].map(|corner| out.vertex_map[corner as usize]);
+        let expected: [u16; 3] = fours[3 * number as usize..][..3].try_into().unwrap();
+        // Beginning with any of its corners.
+        assert!([[a, b, c], [b, c, a], [c, a, b]].contains(&expected), "{what}: a triangle is not that of the splitting");
     }
     let is_kept = |&vertex: &u16| (out.vertex_map[vertex as usize] as u64) < answer.vertices;
     assert_eq!(answer.role, role(&mesh.list, is_kept), "{what}: another role than that of triangle 0");
@@ -258,7 +334,7 @@ fn undo_ones(version: usize, mesh: &Mesh, levels: usize) -> Vec<(SeveralAnswer, 
     for level in 0..levels {
         let (one, out) = undo_one_accepted(version, &left, LEAST);
         for role in 0..one.role {
-            check_undo_one_refused(version, answer.vertices, &left.list, role, (11, 0));
+            check_unread(version, &left, role);
         }
         (answer.vertices, answer.triangles) = (one.vertices, one.triangles);
         (answer.edges, answer.boundary_edges) = edge_counts(&out.mesh);
@@ -268,7 +344,7 @@ fn undo_ones(version: usize, mesh: &Mesh, levels: usize) -> Vec<(SeveralAnswer, 
         undone.push((answer, left.list.clone()));
     }
     for asked in 0..=LEAST {
-        check_undo_one_refused(version, answer.vertices, &left.list, asked, (11, 0));
+        check_unread(version, &left, asked);
     }
     undone
 }

@@ -7,6 +7,9 @@ pub const SIZES: [usize; 4] = [256, 1_024, 4_096, MOST];
 pub const MOST: usize = 16_384;
 pub const MOST_TO_SPLIT: usize = MOST / 4;
 
+// A mesh with a triangle that is turned.
+pub const TURNED: &str = "turned";
+
 pub const IN_ORDER: &str = "in order";
 const SHUFFLED: &str = "shuffled";
 
@@ -36,7 +39,8 @@ pub fn to_split(size: usize) -> Vec<Mesh> {
 pub fn to_undo(size: usize) -> Vec<Mesh> {
     let mut random = Random::new();
     let splittings = of_each_kind(size / 4, &mut random).map(|mesh| split_of(&mesh));
-    in_both_orders(splittings.into_iter().chain([odd_torus(size)]).chain(refused(size)), &mut random)
+    let others = [odd_torus(size)].into_iter().chain(refused(size)).chain(turned_torus(size));
+    in_both_orders(splittings.into_iter().chain(others), &mut random)
 }
 
 // A mesh of each kind with so many triangles, a power of four.
@@ -53,7 +57,8 @@ pub struct Several {
     pub levels: usize,
 }
 
-// The meshes to undo several levels of: as deep as can be, of one level, after which `refused` is refused late, or of none.
+// The meshes to undo several levels of: as deep as can be, of one level, after which `refused` and `turned` are refused late, or of
+// none.
 pub fn to_undo_several(size: usize) -> Vec<Several> {
     let mut random = Random::new();
     let coarse = size / 4;
@@ -62,7 +67,8 @@ pub fn to_undo_several(size: usize) -> Vec<Several> {
     let firsts = [(least_torus(), depth - 2), (triangle(), depth)]
         .into_iter()
         .chain(once.map(|first| (first, 1)))
-        .chain([(odd_torus(size), 0)]);
+        .chain([(odd_torus(size), 0)])
+        .chain(turned_torus(coarse).map(|first| (first, 1)));
     let both = |(first, levels): (Mesh, usize)| {
         let orders = in_both_orders([split_times(&first, levels)], &mut random);
         orders.into_iter().map(move |mesh| Several { mesh, first: first.clone(), levels })
@@ -121,6 +127,18 @@ fn torus(triangles: usize) -> Mesh {
 fn odd_torus(triangles: usize) -> Mesh {
     let (wide, high) = sides(triangles);
     torus_of("odd", wide - 1, high)
+}
+
+// One whose last triangle is turned. Each role has a reading but for that: all four are tried to the end. Behind a torus of fewer than
+// 256 triangles, which is at most four vertices high, there is none.
+fn turned_torus(triangles: usize) -> Option<Mesh> {
+    if triangles < 256 {
+        return None;
+    }
+    let mut mesh = Mesh { name: TURNED, ..torus(triangles) };
+    let last = mesh.list.len() - 3;
+    mesh.list[last + 1..].reverse();
+    Some(mesh)
 }
 
 // Of a torus of so many triangles that is twice as wide as high.

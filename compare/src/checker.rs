@@ -15,6 +15,10 @@ use crate::room::{Room, MOST};
 // What was different, in words, with the call and its whole input.
 pub type Checked = Result<(), String>;
 
+// What undo one is asked for the least role, and what it refuses where only windings are at fault.
+const LEAST: u64 = 4;
+const INSIDE_OUT: u64 = 15;
+
 // Up to so many triangles the reference also searches exhaustively.
 const EXHAUSTIVE: usize = 12;
 
@@ -119,13 +123,25 @@ impl<'a> Checker<'a> {
         let [coarse, vertex_map, triangle_map] = [coarse, vertex_map, triangle_map].map(Buffer::lent_mut);
         let out = OneOutputs { mesh: coarse, vertex_map, triangle_map };
         let found = calls.undo_one(mesh.vertices, list.lent(), asked, out, slices(work));
-        let OneAnswer { refusal, place, triangles, edges, boundary_edges, role, .. } = expected.0;
-        self.cover.answer(Call::UndoOne, refusal, place);
-        if refusal == 0 {
-            self.cover.edges(Call::UndoOne, triangles, edges, boundary_edges);
-            self.cover.reading(asked, role);
-        }
+        self.cover_undo_one(mesh, asked, room, expected.0);
         self.judge(found, expected, mesh, room)
+    }
+
+    fn cover_undo_one(&mut self, mesh: &Mesh, asked: u64, room: &Room, expected: OneAnswer) {
+        let OneAnswer { refusal, place, triangles, edges, boundary_edges, role, .. } = expected;
+        self.cover.answer(Call::UndoOne, refusal, place);
+        match refusal {
+            0 => {
+                self.cover.edges(Call::UndoOne, triangles, edges, boundary_edges);
+                self.cover.reading(asked, role);
+                let is_inside_out = |role: u64| expected_one(mesh, role, room, Search::Spreading).0.refusal == INSIDE_OUT;
+                if asked == LEAST && (0..role).any(is_inside_out) {
+                    self.cover.passed_over();
+                }
+            }
+            INSIDE_OUT => self.cover.inside_out(asked),
+            _ => (),
+        }
     }
 
     fn compare_undo_several(&mut self, mesh: &Mesh, asked: u64, room: &Room) -> Checked {
@@ -133,13 +149,26 @@ impl<'a> Checker<'a> {
         self.lend(mesh, room);
         let Checker { calls, list, outputs: [out, ..], work, .. } = self;
         let found = calls.undo_several(mesh.vertices, list.lent(), asked, out.lent_mut(), slices(work));
-        let SeveralAnswer { refusal, place, triangles, edges, boundary_edges, levels, roles, .. } = expected.0;
-        self.cover.answer(Call::UndoSeveral, refusal, place);
-        if refusal == 0 {
-            self.cover.edges(Call::UndoSeveral, triangles, edges, boundary_edges);
-            self.cover.levels(levels, &roles);
-        }
+        self.cover_undo_several(asked, &expected);
         self.judge(found, expected, mesh, room)
+    }
+
+    fn cover_undo_several(&mut self, asked: u64, (answer, written): &Outcome<SeveralAnswer>) {
+        let SeveralAnswer { refusal, place, vertices, triangles, edges, boundary_edges, levels, roles } = *answer;
+        self.cover.answer(Call::UndoSeveral, refusal, place);
+        if refusal != 0 {
+            return;
+        }
+        self.cover.edges(Call::UndoSeveral, triangles, edges, boundary_edges);
+        self.cover.levels(levels, &roles);
+        // Why it stopped is looked at once for a mesh.
+        if asked == 7 && levels < asked {
+            let left = Mesh::new(vertices, &written[0]);
+            let one = expected_one(&left, LEAST, &Room::of_undo_one(&left), Search::Spreading).0;
+            if one.refusal == INSIDE_OUT {
+                self.cover.stopped_inside_out(levels);
+            }
+        }
     }
 
     pub fn read_frames(&mut self, bytes: &[u8], length: usize) -> Checked {

@@ -32,10 +32,10 @@ const COUNTING: [Call; 3] = [Call::Split, Call::UndoOne, Call::UndoSeveral];
 const SORTS: [&str; 4] = ["no boundary edge", "boundary edges", "singular edges", "singular edges and no boundary edge"];
 
 // The refusals' numbers, and 0 for acceptance.
-const NUMBERS: usize = 15;
+const NUMBERS: usize = 16;
 
 // The refusals that name a place.
-const PLACED: [usize; 7] = [6, 7, 8, 9, 10, 12, 14];
+const PLACED: [usize; 8] = [6, 7, 8, 9, 10, 12, 14, 15];
 
 impl Call {
     pub fn name(self) -> &'static str {
@@ -55,12 +55,12 @@ impl Call {
     fn numbers(self) -> &'static [usize] {
         match self {
             Call::Split => &[0, 2, 3, 4, 5, 6, 7, 8, 9, 10],
-            Call::UndoOne => &[0, 1, 2, 3, 4, 5, 6, 7, 8, 9, 10, 11],
+            Call::UndoOne => &[0, 1, 2, 3, 4, 5, 6, 7, 8, 9, 10, 11, 15],
             Call::UndoSeveral => &[0, 1, 2, 3, 4, 5, 6, 7, 8, 9, 10],
             Call::ReadFrames => &[0, 4, 5, 12],
             Call::WriteFrames | Call::WriteIndex => &[0, 2, 4, 5],
             Call::ReadIndex => &[0, 4, 5, 14],
-            Call::Program => &[0, 3, 4, 5, 6, 7, 8, 9, 10, 11, 12, 13],
+            Call::Program => &[0, 3, 4, 5, 6, 7, 8, 9, 10, 11, 12, 13, 15],
         }
     }
 }
@@ -78,6 +78,12 @@ pub struct Cover {
     // What undo several reached, and the roles that it took.
     levels: [u64; 8],
     roles_of_levels: [u64; 4],
+    // Refusals 15 of undo one, by what was asked.
+    inside_out: [u64; 5],
+    // Readings in the least role where a lesser one has a reading by the old rule alone.
+    passed_over: u64,
+    // Where undo several stopped though the old rule has a reading: before the first level, and after it.
+    stopped: [u64; 2],
     // Undos for which the reference's two searches were compared with each other.
     both_searches: u64,
     // By set and kind.
@@ -114,6 +120,18 @@ impl Cover {
         }
     }
 
+    pub fn inside_out(&mut self, asked: u64) {
+        self.inside_out[asked as usize] += 1;
+    }
+
+    pub fn passed_over(&mut self) {
+        self.passed_over += 1;
+    }
+
+    pub fn stopped_inside_out(&mut self, levels: u64) {
+        self.stopped[usize::from(levels > 0)] += 1;
+    }
+
     pub fn both_searches(&mut self) {
         self.both_searches += 1;
     }
@@ -130,6 +148,9 @@ impl Cover {
         add_each(&mut self.least_roles, &other.least_roles);
         add_each(&mut self.levels, &other.levels);
         add_each(&mut self.roles_of_levels, &other.roles_of_levels);
+        add_each(&mut self.inside_out, &other.inside_out);
+        add_each(&mut self.stopped, &other.stopped);
+        self.passed_over += other.passed_over;
         self.both_searches += other.both_searches;
         for (kind, count) in other.cases {
             *self.cases.entry(kind).or_default() += count;
@@ -165,6 +186,13 @@ impl Cover {
         for levels in 0..8 {
             expect(self.levels[levels], format!("{levels} levels"));
         }
+        for (asked, &count) in self.inside_out.iter().enumerate() {
+            expect(count, format!("15, asked {asked}"));
+        }
+        expect(self.passed_over, "a reading in the least role, where a lesser one has one by the old rule".into());
+        for (levels, count) in ["no level", "a level"].iter().zip(self.stopped) {
+            expect(count, format!("{levels} undone, and then 15"));
+        }
         expect(self.both_searches, "an undo by both searches".into());
         for kind in kinds {
             expect(self.cases.get(kind).copied().unwrap_or(0), format!("{}: {}", kind.0, kind.1));
@@ -197,6 +225,8 @@ impl Display for Cover {
         }
         writeln!(f, "readings in roles 0 to 3: asked for {:?}, the least {:?}", self.roles_asked, self.least_roles)?;
         writeln!(f, "undone 0 to 7 levels: {:?}, in roles 0 to 3: {:?}", self.levels, self.roles_of_levels)?;
+        writeln!(f, "refused 15, asked 0 to 4: {:?}; lesser roles passed over: {}", self.inside_out, self.passed_over)?;
+        writeln!(f, "stopped several at 15, at once and after a level: {:?}", self.stopped)?;
         write!(f, "undos by both of the reference's searches: {}", self.both_searches)
     }
 }

@@ -1,5 +1,5 @@
 // The kinds of meshes that are compared, each made at random up to a size.
-use crate::meshes::{self, disguised, doubled, merged, shape, split_times, splitting, Closing, Mesh};
+use crate::meshes::{self, disguised, doubled, merged, shape, split_times, splitting, turned, Closing, Mesh};
 use crate::random::Random;
 
 pub struct Kind {
@@ -21,6 +21,13 @@ pub const KINDS: &[Kind] = &[
     Kind { name: "a closed surface, split", make: split_surface },
     Kind { name: "split several times", make: split_often },
     Kind { name: "a grid with several readings", make: even_grid },
+    Kind { name: "a grid with several readings, rows of it turned", make: rows_turned },
+    Kind { name: "a grid with several readings, tiles of one turned", make: tiles_of_grid_turned },
+    Kind { name: "a band of tiles, with any windings", make: band_of_tiles },
+    Kind { name: "split, whole tiles turned", make: tiles_turned },
+    Kind { name: "split, one triangle turned", make: one_turned },
+    Kind { name: "split, some triangles turned", make: some_turned },
+    Kind { name: "split, triangles of a level behind it turned", make: turned_and_split },
     Kind { name: "split, one entry changed", make: one_entry_changed },
     Kind { name: "split, two vertices merged", make: two_merged },
     Kind { name: "split, a vertex doubled", make: one_doubled },
@@ -83,9 +90,74 @@ fn split_often(random: &mut Random, most: usize) -> Mesh {
 // Columns and rows are even, so that every second vertex of every second column can be the kept ones, in four ways.
 fn even_grid(random: &mut Random, most: usize) -> Mesh {
     let closing = random.pick(&[Closing::Torus, Closing::KleinBottle]);
+    let [columns, rows] = even_sides(random, most);
+    disguised(random, meshes::grid(columns, rows, closing))
+}
+
+fn even_sides(random: &mut Random, most: usize) -> [usize; 2] {
     let columns = random.between(2, (most / 16).max(3));
     let rows = random.between(2, (most / 8 / columns).max(3));
-    disguised(random, meshes::grid(2 * columns, 2 * rows, closing))
+    [2 * columns, 2 * rows]
+}
+
+// An even torus or Klein bottle, of which some rows or columns that follow each other are turned. Along the two lines where these begin
+// and end the windings change. They agree with a reading if both lines are coarse edges: on a torus with two of the four, or with none.
+fn rows_turned(random: &mut Random, most: usize) -> Mesh {
+    let [columns, rows] = even_sides(random, most);
+    let closing = random.pick(&[Closing::Torus, Closing::Torus, Closing::KleinBottle]);
+    let by_row = random.one_in(2);
+    let all = if by_row { rows } else { columns };
+    let (first, count) = (random.below(all), random.between(1, all - 1));
+    let line = |triangle: usize| if by_row { triangle / 2 % rows } else { triangle / 2 / rows };
+    let mesh = turned(meshes::grid(columns, rows, closing), |triangle| (line(triangle) + all - first) % all < count);
+    disguised(random, mesh)
+}
+
+// Of the four readings one has the windings, and mostly no other.
+fn tiles_of_grid_turned(random: &mut Random, most: usize) -> Mesh {
+    let mesh = meshes::closed_grid(random, (most / 4).max(18), Closing::Torus);
+    let mesh = turned(mesh, |_| random.one_in(2));
+    disguised(random, splitting(&mesh))
+}
+
+// It has two readings but for windings. An annulus whose neighbours face the same side has both.
+fn band_of_tiles(random: &mut Random, most: usize) -> Mesh {
+    let mesh = meshes::band(random.between(5, (most / 4).max(6)));
+    let mesh = match random.below(3) {
+        0 => turned(mesh, |triangle| !triangle.is_multiple_of(2)),
+        1 => turned(mesh, |_| random.one_in(2)),
+        _ => mesh,
+    };
+    disguised(random, splitting(&mesh))
+}
+
+// As each tile goes round alike, the mesh keeps its reading.
+fn tiles_turned(random: &mut Random, most: usize) -> Mesh {
+    let coarse = shape(random, most / 4);
+    let mesh = splitting(&turned(coarse, |_| random.one_in(2)));
+    disguised(random, mesh)
+}
+
+fn one_turned(random: &mut Random, most: usize) -> Mesh {
+    let mesh = split_shape(random, most);
+    let only = random.below(mesh.triangles());
+    turned(mesh, |triangle| triangle == only)
+}
+
+// Any of them, or of every tile the centre or the same corner triangle.
+fn some_turned(random: &mut Random, most: usize) -> Mesh {
+    let mesh = splitting(&shape(random, most / 4));
+    let of_four = random.below(8);
+    let is_turned = |triangle: usize| if of_four < 4 { triangle % 4 == of_four } else { random.one_in(of_four - 2) };
+    let mesh = turned(mesh, is_turned);
+    disguised(random, mesh)
+}
+
+// Undone once or more, and then inside out.
+fn turned_and_split(random: &mut Random, most: usize) -> Mesh {
+    let times = random.between(1, (most.ilog(4) as usize).saturating_sub(1).max(1));
+    let coarse = random.pick(&[one_turned, some_turned])(random, (most >> (2 * times)).max(4));
+    disguised(random, split_times(&coarse, times))
 }
 
 fn one_entry_changed(random: &mut Random, most: usize) -> Mesh {

@@ -181,7 +181,7 @@ pub fn closed_grid(random: &mut Random, most: usize, closing: Closing) -> Mesh {
 
 // ---- the same mesh with other numbers
 
-// Renumbers the vertices, reorders the triangles, rotates their corners and turns their windings, or some of these.
+// Renumbers the vertices, reorders the triangles, rotates their corners and turns them all, or some of these.
 pub fn disguised(random: &mut Random, mesh: Mesh) -> Mesh {
     let mut numbers: Vec<u16> = (0..mesh.vertices as u16).collect();
     if !random.one_in(5) {
@@ -191,16 +191,21 @@ pub fn disguised(random: &mut Random, mesh: Mesh) -> Mesh {
     if !random.one_in(5) {
         random.shuffle(&mut triangles);
     }
-    let (rotates, turns) = (random.below(3), random.below(3));
+    let (rotates, turns) = (random.below(3) > 0, random.one_in(3));
     let mut list = Vec::with_capacity(mesh.list.len());
     for mut triangle in triangles {
-        triangle.rotate_left(if rotates > 0 { random.below(3) } else { 0 });
-        if turns > 0 && random.one_in(2) {
-            triangle.swap(1, 2);
-        }
+        triangle.rotate_left(if rotates { random.below(3) } else { 0 });
         list.extend(triangle.map(|corner| numbers.get(corner as usize).copied().unwrap_or(corner)));
     }
-    Mesh { list, ..mesh }
+    turned(Mesh { list, ..mesh }, |_| turns)
+}
+
+// The triangles for which it is said go the other way round.
+pub fn turned(mut mesh: Mesh, mut is_turned: impl FnMut(usize) -> bool) -> Mesh {
+    for triangle in (0..mesh.triangles()).filter(|&triangle| is_turned(triangle)) {
+        mesh.list.swap(3 * triangle + 1, 3 * triangle + 2);
+    }
+    mesh
 }
 
 // A vertex becomes another, and the last one takes its number.

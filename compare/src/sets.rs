@@ -37,7 +37,7 @@ pub struct Sizes {
 
 pub fn all(sizes: &Sizes) -> Vec<Set> {
     vec![
-        Set { name: "document 01", cases: document::MESHES, kind: |number| document::named(number).name, check: check_document },
+        Set { name: "documents", cases: document::MESHES, kind: |number| document::named(number).name, check: check_document },
         Set { name: "frames", cases: sizes.frames, kind: frames_kind, check: check_frames },
         Set { name: "index", cases: sizes.index, kind: index_kind, check: check_index },
         Set { name: "shapes", cases: sizes.small / 30, kind: |number| shape(number).name, check: check_shape },

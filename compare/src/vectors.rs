@@ -2,7 +2,7 @@
 // worked out by hand come first.
 use std::fmt::Write;
 
-use crate::document::{three_cones, torus, Named, STARRED};
+use crate::document::{three_cones, torus, Named, INSIDE_OUT, STARRED};
 use crate::index;
 use crate::kinds::KINDS;
 use crate::meshes::{self, Mesh};
@@ -92,6 +92,7 @@ pub fn text() -> String {
     starred(&mut text);
     refusals(&mut text);
     edges(&mut text);
+    inside_out(&mut text);
     generated(&mut text);
     index_by_bytes(&mut text);
     index_by_numbers(&mut text);
@@ -181,6 +182,16 @@ fn edges(text: &mut Text) {
         text.undo_one([0, 1, 4]);
         text.split(1);
         text.undo_several([0, 1, 2, 7, 8]);
+    }
+}
+
+fn inside_out(text: &mut Text) {
+    text.comment("---- triangles inside out");
+    for Named { name, mesh } in &INSIDE_OUT {
+        text.comment(name);
+        text.mesh(&mesh());
+        text.undo_one(0..=4);
+        text.undo_several([1, 7]);
     }
 }
 

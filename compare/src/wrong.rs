@@ -34,6 +34,20 @@ faults! {
     PlaceOffByOne,
     RolesBehindTheLast,
     CornersRotated,
+    // In windings.
+    CornersAsASet,
+    LastCornerNotCompared,
+    FirstCornersMustAgree,
+    NeighboursMustAgree,
+    ElevenForFifteen,
+    FifteenByAnyRole,
+    OldRuleHidesAGreaterRole,
+    PlaceInTheGreatestRole,
+    PlaceOfTheGreatestTurned,
+    PlaceInTheSplitting,
+    PlaceOfATurnedCentre,
+    SeveralByTheOldRule,
+    SeveralRefusesFifteen,
     // In the counts of edges.
     SingularEdgesAreBoundary,
     EdgesOfEachTriangle,
@@ -71,13 +85,15 @@ type Edges = HashMap<(u16, u16), Vec<usize>>;
 // A refusal's number and place.
 type Refusal = (u64, u64);
 
-// What an undo makes of a role, and whether it has been found to be a reading.
+// What an undo makes of a role, whether it has been found to be a reading but for windings, and then the place of refusal 15, if that
+// is due.
 struct Undone {
     coarse: Mesh,
     vertex_map: Vec<u16>,
     triangle_map: Vec<u16>,
     role: u64,
     is_reading: bool,
+    inside_out: Option<u64>,
 }
 
 impl Wrong {
@@ -150,7 +166,7 @@ impl Wrong {
     }
 
     // In the role asked, or in the first of all. The maps of one that is no reading go to `early`.
-    fn undone(&self, mesh: &Mesh, asked: u64, mut early: impl FnMut(&Undone)) -> Option<Undone> {
+    fn undone(&self, mesh: &Mesh, asked: u64, mut early: impl FnMut(&Undone)) -> Result<Undone, Refusal> {
         let mut roles: Vec<u64> = if asked < 4 { vec![asked] } else { (0..4).collect() };
         if asked == 4 && self.has(Fault::RoleZeroOnly) {
             roles.truncate(1);
@@ -158,8 +174,22 @@ impl Wrong {
         if self.has(Fault::GreatestRole) {
             roles.reverse();
         }
+        let mut place = None;
         let made = roles.into_iter().filter_map(|role| self.in_role(mesh, role));
-        made.inspect(|undone| early(undone)).find(|undone| undone.is_reading)
+        for undone in made.inspect(|undone| early(undone)).filter(|undone| undone.is_reading) {
+            if undone.inside_out.is_none() {
+                return Ok(undone);
+            }
+            let is_first = place.is_none() || self.has(Fault::PlaceInTheGreatestRole);
+            place = if is_first { undone.inside_out } else { place };
+            if self.has(Fault::OldRuleHidesAGreaterRole) {
+                break;
+            }
+        }
+        if self.has(Fault::FifteenByAnyRole) {
+            place = place.or_else(|| (0..4).find_map(|role| self.in_role(mesh, role)?.inside_out));
+        }
+        Err(place.filter(|_| !self.has(Fault::ElevenForFifteen)).map_or((11, 0), |place| (15, place)))
     }
 
     fn in_role(&self, mesh: &Mesh, role: u64) -> Option<Undone> {
@@ -186,9 +216,46 @@ impl Wrong {
             let fours = [centre, tile[0].0, tile[1].0, tile[2].0].into_iter().zip(4 * number as u16..);
             fours.for_each(|(triangle, number)| triangle_map[triangle] = number);
         }
-        let mut undone = Undone { coarse, vertex_map, triangle_map, role, is_reading: false };
+        let mut undone = Undone { coarse, vertex_map, triangle_map, role, is_reading: false, inside_out: None };
         undone.is_reading = self.is_reading(&undone, &fine, &triangles, &kept);
+        undone.inside_out = self.inside_out(&undone, &fine, &triangles);
         Some(undone)
+    }
+
+    // The least triangle that does not go round as the splitting has it.
+    fn inside_out(&self, undone: &Undone, fine: &Mesh, triangles: &[[u16; 3]]) -> Option<u64> {
+        let Undone { vertex_map, triangle_map, is_reading: true, .. } = undone else { return None };
+        let is_turned = |&triangle: &usize| {
+            let number = triangle_map[triangle] as usize;
+            let (matched, expected) = (triangles[triangle].map(|corner| vertex_map[corner as usize]), fine.triangle(number));
+            let rotations = if self.has(Fault::FirstCornersMustAgree) { 1 } else { 3 };
+            // Other vertices are the concern of those faults that let them pass.
+            sorted(matched) == sorted(expected)
+                && !(0..rotations).any(|places| rotated(matched, places) == expected)
+                && !(self.has(Fault::LastCornerNotCompared) && number % 4 == 3)
+        };
+        let mut turned: Vec<usize> = (0..triangles.len()).filter(is_turned).collect();
+        match self.0 {
+            Fault::CornersAsASet => turned.clear(),
+            Fault::NeighboursMustAgree if turned.is_empty() => turned = against_neighbours(triangles),
+            _ => (),
+        }
+        self.place_of(&turned, triangle_map)
+    }
+
+    // The least of the turned triangles, which are in order.
+    fn place_of(&self, turned: &[usize], triangle_map: &[u16]) -> Option<u64> {
+        let least = *turned.first()?;
+        let tile = triangle_map[least] / 4;
+        let place = match self.0 {
+            Fault::PlaceOfTheGreatestTurned => turned[turned.len() - 1],
+            Fault::PlaceInTheSplitting => turned.iter().map(|&triangle| triangle_map[triangle] as usize).min()?,
+            Fault::PlaceOfATurnedCentre if turned.iter().filter(|&&other| triangle_map[other] / 4 == tile).count() == 3 => {
+                triangle_map.iter().position(|&number| number == 4 * tile)?
+            }
+            _ => least,
+        };
+        Some(place as u64)
     }
 
     // How many edges a mesh has, and how many of them one triangle has.
@@ -334,9 +401,12 @@ impl Calls for Wrong {
                 self.write(out.vertex_map, &undone.vertex_map);
             }
         };
-        let Some(Undone { coarse, vertex_map, triangle_map, role, .. }) = self.undone(&mesh, asked, early) else {
-            let (edges, boundary_edges) = if self.has(Fault::EdgesInARefusal) { self.edge_counts(&mesh) } else { (0, 0) };
-            return OneAnswer { refusal: 11, edges, boundary_edges, ..OneAnswer::default() };
+        let Undone { coarse, vertex_map, triangle_map, role, .. } = match self.undone(&mesh, asked, early) {
+            Ok(undone) => undone,
+            Err((refusal, place)) => {
+                let (edges, boundary_edges) = if self.has(Fault::EdgesInARefusal) { self.edge_counts(&mesh) } else { (0, 0) };
+                return OneAnswer { refusal, place, edges, boundary_edges, ..OneAnswer::default() };
+            }
         };
         self.write(out.mesh, &coarse.list);
         self.write(out.vertex_map, &vertex_map);
@@ -360,10 +430,18 @@ impl Calls for Wrong {
         let mut answer = SeveralAnswer::default();
         let mut mesh = input.clone();
         while answer.levels < most {
-            let Some(undone) = self.undone(&mesh, 4, |_| ()) else { break };
-            answer.roles[answer.levels as usize] = undone.role as u8;
-            answer.levels += 1;
-            mesh = undone.coarse;
+            let rule = if self.has(Fault::SeveralByTheOldRule) { &Wrong(Fault::CornersAsASet) } else { self };
+            match rule.undone(&mesh, 4, |_| ()) {
+                Ok(undone) => {
+                    answer.roles[answer.levels as usize] = undone.role as u8;
+                    answer.levels += 1;
+                    mesh = undone.coarse;
+                }
+                Err((refusal @ 15, place)) if self.has(Fault::SeveralRefusesFifteen) => {
+                    return SeveralAnswer { refusal, place, ..SeveralAnswer::default() }
+                }
+                Err(_) => break,
+            }
         }
         if self.has(Fault::RolesBehindTheLast) && answer.levels > 0 && answer.levels < 7 {
             answer.roles[answer.levels as usize] = 4;
@@ -460,6 +538,25 @@ fn third(triangle: [u16; 3], v: u16, w: u16) -> u16 {
 fn sorted(mut corners: [u16; 3]) -> [u16; 3] {
     corners.sort();
     corners
+}
+
+fn rotated(mut corners: [u16; 3], places: usize) -> [u16; 3] {
+    corners.rotate_left(places);
+    corners
+}
+
+// The triangles that run over a regular edge in the direction in which the other triangle on it does.
+fn against_neighbours(triangles: &[[u16; 3]]) -> Vec<usize> {
+    let runs = |triangle: usize, v: u16, w: u16| (0..3).any(|places| rotated(triangles[triangle], places)[..2] == [v, w]);
+    let mut against = BTreeSet::new();
+    for ((v, w), on) in edges_of(triangles) {
+        if let [one, other] = on[..] {
+            if runs(one, v, w) == runs(other, v, w) {
+                against.extend([one, other]);
+            }
+        }
+    }
+    against.into_iter().collect()
 }
 
 // Whether a map takes each number below its length once.

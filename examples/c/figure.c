@@ -272,6 +272,36 @@ static void refusals(void)
     print_refusal(answer.refusal, answer.place);
 }
 
+/* ---- windings
+
+   A figure that comes back with a triangle inside out. The place is that triangle, or, had a centre been turned, the
+   least of the three around it: here it is known which, and turned back. */
+
+static void inside_out_and_repaired(void)
+{
+    /* The first triangle is the centre. That at corner 0 should be (0, 3, 5). */
+    uint16_t fine[12] = {3, 4, 5, 0, 5, 3, 1, 4, 3, 2, 5, 4};
+    uint16_t coarse[3];
+    uint16_t vertex_map[6];
+    uint16_t triangle_map[4];
+    uint16_t work[9 * 18];
+
+    printf("a split triangle with a triangle inside out\n");
+    const flatcarol_one_answer refused = flatcarol_undo_one_in(
+        6, fine, 12, FLATCAROL_ANY_ROLE, coarse, 3, vertex_map, 6, triangle_map, 4, work, 9 * 18);
+    print_refusal(refused.refusal, refused.place);
+
+    uint16_t *const corners = fine + 3 * refused.place;
+    const uint16_t second = corners[1];
+    corners[1] = corners[2];
+    corners[2] = second;
+    printf("and with that triangle turned back\n");
+    const flatcarol_one_answer undone = flatcarol_undo_one_in(
+        6, fine, 12, FLATCAROL_ANY_ROLE, coarse, 3, vertex_map, 6, triangle_map, 4, work, 9 * 18);
+    must_be_accepted(undone.refusal, undone.place);
+    print_triangles(coarse, undone.triangles);
+}
+
 int main(void)
 {
     one_split_and_back();
@@ -280,5 +310,6 @@ int main(void)
     frames_read_and_written();
     index_text_read_and_written();
     refusals();
+    inside_out_and_repaired();
     return 0;
 }

@@ -1,7 +1,7 @@
 //! Document 01, "Calls" and "Refusals by number": split, undo one, undo several.
 
 use crate::mesh::{Limits, Mesh};
-use crate::reading::Match;
+use crate::reading::{least_disagreeing, Match, Rule};
 use crate::splitting::splitting;
 use crate::{exhaustive, spreading};
 
@@ -176,17 +176,32 @@ pub fn split(vertices: u64, list: &[u16], out: usize, work: &[usize]) -> (Answer
     }
 }
 
-/// The reading of a proper mesh in a role, by the search named.
-fn search_in(mesh: &Mesh, role: u64, search: Search) -> Option<Match> {
+/// The reading by the rule of a proper mesh in a role, by the search named.
+fn search_in(mesh: &Mesh, role: u64, rule: Rule, search: Search) -> Option<Match> {
     match search {
-        Search::Exhaustive => exhaustive::reading(mesh, role),
-        Search::Spreading => spreading::reading(mesh, role),
+        Search::Exhaustive => exhaustive::reading(mesh, role, rule),
+        Search::Spreading => spreading::reading(mesh, role, rule),
     }
 }
 
-/// "the least role that has a reading", with this reading.
-fn least_role(mesh: &Mesh, search: Search) -> Option<(u64, Match)> {
-    (0..=3).find_map(|role| search_in(mesh, role, search).map(|m| (role, m)))
+/// "Asked 0 to 3: that role. Asked 4: the least role that has a reading", here by the rule, with this reading.
+fn least_role(mesh: &Mesh, asked: u64, rule: Rule, search: Search) -> Option<(u64, Match)> {
+    let mut roles = if asked == 4 { 0..=3 } else { asked..=asked };
+    roles.find_map(|role| search_in(mesh, role, rule, search).map(|m| (role, m)))
+}
+
+/// The refusal of a proper mesh where no role asked has a reading: 11, or "15, in place of 11, exactly if a role asked has a reading by
+/// the old rule but none asked has one by the new; place is the least triangle that disagrees with the splitting of the mesh the old
+/// rule returns in the least such role."
+fn without_reading(mesh: &Mesh, asked: u64, search: Search) -> Answer {
+    match least_role(mesh, asked, Rule::Old, search) {
+        // "no reading in the role asked (asked 4: in any)"
+        None => Answer::refused(11, 0),
+        Some((_, m)) => {
+            let place = least_disagreeing(mesh, &m, Rule::New).expect("a match that agrees everywhere is a reading");
+            Answer::refused(15, place as u64)
+        }
+    }
 }
 
 /// "**Undo one.** Asked 0 to 3: that role. Asked 4: the least role that has a reading."
@@ -204,10 +219,8 @@ pub fn undo_one(vertices: u64, list: &[u16], asked: u64, room: OneRoom, work: &[
         Err(answer) => return refused(answer),
         Ok(mesh) => mesh,
     };
-    let taken = if asked == 4 { least_role(&mesh, search) } else { search_in(&mesh, asked, search).map(|m| (asked, m)) };
-    match taken {
-        // "no reading in the role asked (asked 4: in any)"
-        None => refused(Answer::refused(11, 0)),
+    match least_role(&mesh, asked, Rule::New, search) {
+        None => refused(without_reading(&mesh, asked, search)),
         Some((role, m)) => One {
             answer: Answer::accepted(&m.coarse),
             role,
@@ -222,7 +235,7 @@ pub fn undo_one(vertices: u64, list: &[u16], asked: u64, room: OneRoom, work: &[
 /// way. It stops when the asked number is reached or no reading exists, and answers 0 with the number of levels undone. The role
 /// taken at each level is kept in seven places of the answer; unused places are 0. Asked 0, a proper mesh comes back unchanged."
 ///
-/// "Undo several gives 1 to 10." Room: "undo several 3F".
+/// "Undo several gives 1 to 10." Room: "undo several 3F". Document 02, #103: "undo several stops at either number", 11 or 15.
 pub fn undo_several(vertices: u64, list: &[u16], asked: u64, out: usize, work: &[usize], search: Search) -> Several {
     let refused = |answer| Several { answer, levels: 0, roles: [0; 7], mesh: Vec::new() };
     // "above 7 (undo several)"
@@ -236,7 +249,7 @@ pub fn undo_several(vertices: u64, list: &[u16], asked: u64, out: usize, work: &
     let mut levels = 0;
     let mut roles = [0; 7];
     while levels < asked {
-        let Some((role, m)) = least_role(&mesh, search) else { break };
+        let Some((role, m)) = least_role(&mesh, 4, Rule::New, search) else { break };
         roles[levels as usize] = role as u8;
         levels += 1;
         mesh = m.coarse;
@@ -250,13 +263,13 @@ pub fn proper(vertices: u64, list: &[u16]) -> bool {
     list.len().is_multiple_of(3) && Mesh::of(vertices, list).proper()
 }
 
-/// The reading of a proper mesh, of at most 16,384 triangles and 32,767 vertices, in which triangle 0 has the given role. None if
-/// there is none, or if this is no such mesh.
-pub fn reading_in(vertices: u64, list: &[u16], role: u64, search: Search) -> Option<Reading> {
+/// The reading by the rule of a proper mesh, of at most 16,384 triangles and 32,767 vertices, in which triangle 0 has the given role.
+/// None if there is none, or if this is no such mesh.
+pub fn reading_in(vertices: u64, list: &[u16], role: u64, rule: Rule, search: Search) -> Option<Reading> {
     if list.len() / 3 > Limits::TRIANGLES || vertices > Limits::VERTICES || !proper(vertices, list) {
         return None;
     }
-    let m = search_in(&Mesh::of(vertices, list), role, search)?;
+    let m = search_in(&Mesh::of(vertices, list), role, rule, search)?;
     Some(Reading {
         vertices: m.coarse.vertices,
         mesh: m.coarse.list(),

@@ -10,19 +10,19 @@
 //! there is at most one reading in a role.
 
 use crate::mesh::{edge, edges, Edge, Mesh, OnEdges};
-use crate::reading::{returned, role, Match, Tile};
+use crate::reading::{returned, role, Match, Rule, Tile};
 use std::collections::{BTreeMap, BTreeSet};
 
-/// Every reading of a proper mesh in which triangle 0 has the given role.
+/// Every reading by the rule of a proper mesh in which triangle 0 has the given role.
 ///
 /// "Each triangle has exactly one role in a reading, so there are at most four readings apart from coarse numbering and order":
 /// there is at most one in each role, which is asserted, since this claim is nowhere used.
-pub fn reading(input: &Mesh, asked: u64) -> Option<Match> {
+pub fn reading(input: &Mesh, asked: u64, rule: Rule) -> Option<Match> {
     let mut found = Vec::new();
     // "of triangles onto triangles": the splitting has 4 triangles for each coarse one
     if input.triangles.len().is_multiple_of(4) && !input.triangles.is_empty() {
         let tiles: Vec<Candidate> = all_tiles(input).into_iter().filter(|c| c.gives_triangle_0(input, asked)).collect();
-        complete(input, &tiles, &mut Vec::new(), &mut found);
+        complete(input, &tiles, rule, &mut Vec::new(), &mut found);
     }
     for m in &found {
         assert_eq!(role(input, m), Some(asked), "the role of triangle 0 in a reading");
@@ -126,15 +126,15 @@ impl Chosen {
 }
 
 /// Adds to the chosen tiles in all ways until every triangle is in one, and puts each such parting to the full check.
-fn complete(input: &Mesh, tiles: &[Candidate], chosen: &mut Vec<usize>, found: &mut Vec<Match>) {
+fn complete(input: &Mesh, tiles: &[Candidate], rule: Rule, chosen: &mut Vec<usize>, found: &mut Vec<Match>) {
     if 4 * chosen.len() == input.triangles.len() {
         let parting: Vec<Tile> = chosen.iter().map(|&i| tiles[i].tile.clone()).collect();
-        found.extend(returned(input, &parting));
+        found.extend(returned(input, &parting, rule));
         return;
     }
     for i in tiles_to_try(input, tiles, &Chosen::of(tiles, chosen)) {
         chosen.push(i);
-        complete(input, tiles, chosen, found);
+        complete(input, tiles, rule, chosen, found);
         chosen.pop();
     }
 }

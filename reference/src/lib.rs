@@ -1,4 +1,4 @@
-//! An independent implementation of Flatcarol: a plain rendering of document 01, and of the requests 101 and 102 of document 02, to be
+//! An independent implementation of Flatcarol: a plain rendering of document 01, and of the requests 101 to 103 of document 02, to be
 //! checked against them sentence by sentence. It shares no code with the proved library, and is compared with it.
 
 pub mod calls;
@@ -15,3 +15,4 @@ pub use calls::{proper, reading_in, split, undo_one, undo_several, Answer, Frame
 pub use frames::{read_frames, write_frames};
 pub use index::{read_index, write_index};
 pub use program::program;
+pub use reading::Rule;

@@ -205,6 +205,11 @@ pub fn same(t: Triangle, u: Triangle) -> bool {
     sorted(t) == sorted(u)
 }
 
+/// Document 02, #103: triangles that "agree up to rotation of corners" have the same corners in the same turning.
+pub fn same_up_to_rotation([a, b, c]: Triangle, u: Triangle) -> bool {
+    u == [a, b, c] || u == [b, c, a] || u == [c, a, b]
+}
+
 /// The corner of a triangle that is not on the given one of its edges.
 pub fn opposite(t: &Triangle, e: Edge) -> Option<usize> {
     t.iter().copied().find(|&v| v != e.0 && v != e.1)

@@ -1,6 +1,7 @@
-//! Document 01, "A reading": what a reading is, the role of triangle 0, and the numbering of the returned coarse mesh.
+//! Document 01, "A reading", with the rule of document 02, #103: what a reading is, the role of triangle 0, and the numbering of the
+//! returned coarse mesh.
 
-use crate::mesh::{edge, opposite, same, Mesh};
+use crate::mesh::{edge, opposite, same, same_up_to_rotation, Mesh, Triangle};
 use crate::splitting::splitting;
 use std::collections::BTreeSet;
 
@@ -12,9 +13,27 @@ pub struct Match {
     pub triangle_map: Vec<usize>,
 }
 
+/// What is asked of matched triangles. "Reading" alone means one by the new rule; the old one is left for refusal 15.
+#[derive(Clone, Copy, Debug, PartialEq, Eq)]
+pub enum Rule {
+    /// Document 01: "matched triangles have the same three vertices under the vertex match".
+    Old,
+    /// Document 02, #103: "From now on matched triangles in a reading must agree up to rotation of corners."
+    New,
+}
+
+impl Rule {
+    fn agree(self, t: Triangle, u: Triangle) -> bool {
+        match self {
+            Rule::Old => same(t, u),
+            Rule::New => same_up_to_rotation(t, u),
+        }
+    }
+}
+
 /// "A *reading* of a proper mesh is a proper coarse triangle mesh with a one-to-one match of the input's vertices onto those of its
-/// splitting, and of triangles onto triangles, where matched triangles have the same three vertices under the vertex match."
-pub fn is_reading(input: &Mesh, m: &Match) -> bool {
+/// splitting, and of triangles onto triangles", where matched triangles agree by the rule.
+pub fn is_reading(input: &Mesh, m: &Match, rule: Rule) -> bool {
     // "a proper coarse triangle mesh"
     if !m.coarse.proper() {
         return false;
@@ -26,8 +45,15 @@ pub fn is_reading(input: &Mesh, m: &Match) -> bool {
         // "and of triangles onto triangles"
         && input.triangles.len() == fine.triangles.len()
         && one_to_one_onto(&m.triangle_map, fine.triangles.len())
-        // "where matched triangles have the same three vertices under the vertex match"
-        && input.triangles.iter().zip(&m.triangle_map).all(|(t, &k)| same(t.map(|v| m.vertex_map[v]), fine.triangles[k]))
+        && least_disagreeing(input, m, rule).is_none()
+}
+
+/// The least input triangle that disagrees, by the rule and under the vertex match, with the triangle of the splitting to which it is
+/// matched. Both maps must be onto.
+pub fn least_disagreeing(input: &Mesh, m: &Match, rule: Rule) -> Option<usize> {
+    let fine = splitting(&m.coarse);
+    let mut matched = input.triangles.iter().zip(&m.triangle_map);
+    matched.position(|(t, &k)| !rule.agree(t.map(|v| m.vertex_map[v]), fine.triangles[k]))
 }
 
 /// "one-to-one ... onto": the map sends `0..count` to `0..count` and no two numbers to the same.
@@ -69,14 +95,16 @@ impl Tile {
     }
 }
 
-/// The reading with the given tiles, as it is returned; None if there is none.
+/// The reading by the rule with the given tiles, as it is returned; None if there is none.
 ///
 /// The tiles settle a reading apart from coarse numbering and order: a tile's kept vertices are the corners of its coarse triangle,
 /// and the corner of the centre that two of its corner triangles have in common stands between their kept vertices. To renumber the
-/// coarse vertices, to reorder the coarse triangles or to take a coarse triangle's corners in another order only renumbers and
-/// reorders the splitting. So if any reading has these tiles then the one built here is a reading too; whether it is one, the full
-/// check of the definition says at the end.
-pub fn returned(input: &Mesh, tiles: &[Tile]) -> Option<Match> {
+/// coarse vertices, to reorder the coarse triangles or to rotate a coarse triangle's corners only renumbers and reorders the splitting
+/// and rotates corners in it. To turn a coarse triangle over also turns its four triangles over. By the old rule that makes no
+/// difference. By the new one a coarse triangle must turn as its centre does, and here it does: the centre's corners are those of 4j in
+/// order. So if any reading by the rule has these tiles then the one built here is one too; whether it is, the full check of the
+/// definition says at the end.
+pub fn returned(input: &Mesh, tiles: &[Tile], rule: Rule) -> Option<Match> {
     // "The returned coarse mesh numbers the kept vertices upward in input order, and the centres upward likewise."
     let mut tiles = tiles.to_vec();
     tiles.sort_by_key(|tile| tile.centre);
@@ -115,7 +143,7 @@ pub fn returned(input: &Mesh, tiles: &[Tile]) -> Option<Match> {
         vertex_map: vertex_map.into_iter().collect::<Option<_>>()?,
         triangle_map: triangle_map.into_iter().collect::<Option<_>>()?,
     };
-    is_reading(input, &m).then_some(m)
+    is_reading(input, &m, rule).then_some(m)
 }
 
 /// Enters that the map sends `from` to `to`; None if it already sends it elsewhere.

@@ -14,10 +14,10 @@
 //! labels its role gives, all labels are settled; in every reading with this role they are the same. A contradiction on the way means
 //! that there is no reading. The labels settle the tiles: the centres are the triangles without a kept corner, and each of a centre's
 //! edges has exactly one other triangle. The tiles settle the reading, see [`returned`], where the full check of the definition is
-//! made.
+//! made. How triangles turn plays no part before: a reading by the new rule is one by the old rule.
 
 use crate::mesh::{edges, opposite, Mesh, OnEdges};
-use crate::reading::{returned, role, Match, Tile};
+use crate::reading::{returned, role, Match, Rule, Tile};
 use std::collections::VecDeque;
 
 /// "Input vertices matched to coarse ones are *kept*; the others stand *between* two kept ones."
@@ -27,8 +27,8 @@ enum Label {
     Between,
 }
 
-/// The reading of a proper mesh in which triangle 0 has the given role, if there is one.
-pub fn reading(input: &Mesh, asked: u64) -> Option<Match> {
+/// The reading by the rule of a proper mesh in which triangle 0 has the given role, if there is one.
+pub fn reading(input: &Mesh, asked: u64, rule: Rule) -> Option<Match> {
     // "of triangles onto triangles": the splitting has 4 triangles for each coarse one
     if input.triangles.is_empty() || !input.triangles.len().is_multiple_of(4) {
         return None;
@@ -36,7 +36,7 @@ pub fn reading(input: &Mesh, asked: u64) -> Option<Match> {
     let on = OnEdges::of(input);
     let labels = spread(input, &on, asked)?;
     let tiles = tiles(input, &on, &labels)?;
-    returned(input, &tiles).filter(|m| role(input, m) == Some(asked))
+    returned(input, &tiles, rule).filter(|m| role(input, m) == Some(asked))
 }
 
 /// "The *role* of triangle 0 is 0 if it is a centre, or 1, 2, 3 if its first, second or third corner is its kept vertex."

@@ -1,22 +1,26 @@
 //! The answers that stand beside the meshes of the course are this implementation's.
 
+use std::collections::BTreeSet;
 use std::fs;
 use std::path::{Path, PathBuf};
 
-/// The files of the course with this ending.
-fn samples(ending: &str) -> Vec<PathBuf> {
-    let folder = Path::new(env!("CARGO_MANIFEST_DIR")).join("../samples/course");
-    let files = fs::read_dir(folder).unwrap().map(|file| file.unwrap().path());
-    files.filter(|path| path.extension().is_some_and(|kind| kind == ending)).collect()
+fn folder() -> PathBuf {
+    Path::new(env!("CARGO_MANIFEST_DIR")).join("../samples/course")
+}
+
+/// The files of the course with this ending, without it.
+fn samples(ending: &str) -> BTreeSet<PathBuf> {
+    let files = fs::read_dir(folder()).unwrap().map(|file| file.unwrap().path());
+    files.filter(|path| path.extension().is_some_and(|kind| kind == ending)).map(|path| path.with_extension("")).collect()
 }
 
 #[test]
 fn answers_of_the_course() {
     let meshes = samples("frames");
-    assert!(meshes.len() >= 19);
-    assert_eq!(samples("answer").len(), meshes.len());
-    for mesh in meshes {
-        let answer = fs::read(mesh.with_extension("answer")).unwrap();
-        assert!(reference::program(&fs::read(&mesh).unwrap()) == answer, "{}", mesh.display());
-    }
+    assert!(!meshes.is_empty());
+    assert_eq!(samples("answer"), meshes, "each mesh has an answer, and each answer a mesh");
+    let read = |sample: &Path, ending| fs::read(sample.with_extension(ending)).unwrap();
+    let is_wrong = |sample: &&PathBuf| reference::program(&read(sample, "frames")) != read(sample, "answer");
+    let wrong: Vec<&PathBuf> = meshes.iter().filter(is_wrong).collect();
+    assert!(wrong.is_empty(), "other answers: {wrong:?}");
 }

@@ -201,6 +201,8 @@ fn zeros_in_a_refusal() {
     // 11: this mesh has a reading in role 0 alone, and one triangle has none
     assert_eq!(one(6, &once, 1, 0), refused(11, 0));
     assert_eq!(one(3, &[0, 1, 2], 4, 0), refused(11, 0));
+    // 15: the last triangle is turned over
+    assert_eq!(one(6, &[3, 4, 5, 0, 3, 5, 1, 4, 3, 2, 4, 5], 0, 0), refused(15, 3));
 }
 
 /// Every proper mesh of up to four triangles, and many more of all kinds: each answer counts what is returned. The splitting of a mesh
@@ -232,7 +234,8 @@ fn counted_pair_by_pair() {
         assert_eq!(counts(fine.0), of_splitting(&mesh, (edges, boundary)), "split of {mesh:?}");
         for role in 0..4 {
             let undone = one(&mesh, role);
-            if undone.answer.refusal == 11 {
+            if undone.answer.refusal != 0 {
+                assert!([11, 15].contains(&undone.answer.refusal), "role {role} of {mesh:?}");
                 assert_eq!((undone.answer.edges, undone.answer.boundary_edges), (0, 0));
                 continue;
             }

@@ -155,7 +155,8 @@ pub fn split(vertices: usize, list: &[u16], out: &mut [u16], room: &mut Room) ->
 /// map one for each triangle.
 ///
 /// The coarse mesh numbers the kept vertices upward in the order of the input, and the centres likewise. The maps give the number
-/// that each vertex and each triangle of the input has in the splitting of the coarse mesh.
+/// that each vertex and each triangle of the input has in the splitting of the coarse mesh. There each triangle goes round as it does in
+/// the input, though it may begin with another of its corners.
 ///
 /// ```
 /// use flatcarol::{undo_one, Asked, OneOutputs, Room};
@@ -174,7 +175,7 @@ pub fn split(vertices: usize, list: &[u16], out: &mut [u16], room: &mut Room) ->
 ///
 /// # Errors
 ///
-/// Refusals 1 to 11.
+/// Refusals 1 to 11, and 15 in place of 11.
 pub fn undo_one(vertices: usize, list: &[u16], asked: Asked, out: OneOutputs, room: &mut Room) -> Result<ReadingCounts, Refusal> {
     let work = room.lend(Counts::to_lend_for(vertices, list, Limits::TRIANGLES));
     let answer = raw::undo_one(vertices as u64, list, asked.number(), out, work);
@@ -185,8 +186,9 @@ pub fn undo_one(vertices: usize, list: &[u16], asked: Asked, out: OneOutputs, ro
 
 /// Undoes up to `levels` splits, from 0 to 7, each in the least role that has a reading. `out` needs as many entries as `list`.
 ///
-/// It stops when that many levels are undone or the mesh has no reading: that is no refusal, and may be after 0 levels. The coarsest
-/// mesh's list is the first entries of `out`. With 0 levels it tells whether a mesh is proper, and counts its edges.
+/// It stops when that many levels are undone or the mesh has no reading, where [`undo_one`] would give 11 or 15: that is no refusal, and
+/// may be after 0 levels. The coarsest mesh's list is the first entries of `out`. With 0 levels it tells whether a mesh is proper, and
+/// counts its edges.
 ///
 /// ```
 /// use flatcarol::{undo_several, Room};

@@ -120,9 +120,18 @@ impl Mesh {
     /// # Ok::<(), Refusal>(())
     /// ```
     ///
+    /// A triangle that goes round the other way than the others of its four is told by its number:
+    ///
+    /// ```
+    /// use flatcarol::{Asked, Mesh, Refusal, Room};
+    ///
+    /// let mesh = Mesh::new(6, [3, 4, 5, 0, 5, 3, 1, 4, 3, 2, 5, 4]);
+    /// assert_eq!(mesh.undo_one(Asked::Least, &mut Room::new()), Err(Refusal::InsideOut { triangle: 1 }));
+    /// ```
+    ///
     /// # Errors
     ///
-    /// Refusals 1 to 11, but for 5.
+    /// Refusals 1 to 11 and 15, but for 5.
     pub fn undo_one(&self, asked: Asked, room: &mut Room) -> Result<Reading, Refusal> {
         let lent = Counts::to_lend_for(self.vertices, &self.list, Limits::TRIANGLES);
         let mut list = vec![0; 3 * (lent.triangles / 4)];
@@ -133,7 +142,8 @@ impl Mesh {
         Ok(Reading { coarse: Mesh::cut(coarse, list), edges, boundary_edges, role, vertex_map, triangle_map })
     }
 
-    /// Undoes up to `levels` splits, from 0 to 7, each in the least role that has a reading. See [`undo_several`].
+    /// Undoes up to `levels` splits, from 0 to 7, each in the least role that has a reading, and stops where none has: that is no
+    /// refusal. See [`undo_several`].
     ///
     /// ```
     /// use flatcarol::{Mesh, Room};

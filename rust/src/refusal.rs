@@ -2,11 +2,11 @@ use crate::Limits;
 use std::error::Error;
 use std::fmt;
 
-/// Why a call was refused: document 01's table, to which document 02 adds 14, with the place where the table names one.
+/// Why a call was refused: document 01's table, to which document 02 adds 14 and 15, with the place where the table names one.
 ///
 /// Refusals are checked in the order of their numbers, each over the whole mesh, and the place is the least at which the refusal is
-/// due. What is read is judged first, as far as it says how large the mesh is: 12 for the first line of frames, and 14. A refused call
-/// has written to no buffer of the caller's.
+/// due. What is read is judged first, as far as it says how large the mesh is: 12 for the first line of frames, and 14; and 15 is given
+/// in place of 11. A refused call has written to no buffer of the caller's.
 ///
 /// ```
 /// use flatcarol::{Mesh, Refusal, Room};
@@ -68,6 +68,12 @@ pub enum Refusal {
         /// too. If none is, and the last face lacks a corner, the length of the text.
         byte: usize,
     },
+    /// 15, in place of 11: the mesh has a reading in a role that was asked if winding is ignored, and in none with it.
+    InsideOut {
+        /// The least triangle that goes the other way round than in the splitting of the mesh behind it, in the least such role. That
+        /// mesh goes round as the centres do: where a centre is turned, the least of its three corner triangles.
+        triangle: usize,
+    },
 }
 
 impl Refusal {
@@ -79,7 +85,7 @@ impl Refusal {
     ///
     /// assert_eq!(Refusal::from_number(10, 1), Some(Refusal::NotConnected { triangle: 1 }));
     /// assert_eq!(Refusal::from_number(0, 0), None);
-    /// assert_eq!(Refusal::from_number(15, 0), None);
+    /// assert_eq!(Refusal::from_number(16, 0), None);
     /// ```
     pub fn from_number(number: u64, place: usize) -> Option<Refusal> {
         Some(match number {
@@ -97,6 +103,7 @@ impl Refusal {
             12 => Refusal::FrameNotAsRequired { line: place },
             13 => Refusal::InputTooLong,
             14 => Refusal::TextNotAsRequired { byte: place },
+            15 => Refusal::InsideOut { triangle: place },
             _ => return None,
         })
     }
@@ -139,6 +146,7 @@ impl Refusal {
             Refusal::FrameNotAsRequired { line } => (12, line),
             Refusal::InputTooLong => (13, 0),
             Refusal::TextNotAsRequired { byte } => (14, byte),
+            Refusal::InsideOut { triangle } => (15, triangle),
         }
     }
 }
@@ -179,6 +187,9 @@ impl fmt::Display for Refusal {
                 "the index text is at fault at byte {byte}, counted from 0: faces have three corners up to {} and end with -1",
                 Limits::CORNER
             ),
+            Refusal::InsideOut { triangle } => {
+                write!(text, "triangle {triangle} is inside out: the mesh is a split mesh only if winding is ignored")
+            }
         }
     }
 }

@@ -53,9 +53,10 @@ static const uint16_t sample_triangles[4] = {2, 3, 0, 1};
 /* Three triangles on one edge. */
 static const uint16_t fin[9] = {0, 1, 2, 0, 1, 3, 0, 1, 4};
 
-/* The same, split, where the triangle (2, 7, 6) comes first and is turned: its second corner is kept, role 2. */
-static const uint16_t fin_turned[36] = {
-    7, 2, 6, 5, 6, 7, 0, 5, 7, 1, 6, 5, 5, 8, 9, 0, 5, 9, 1, 8, 5, 3, 9, 8, 5, 10, 11, 0, 5, 11, 1, 10, 5, 4, 11, 10};
+/* The same, split, where the triangle (2, 7, 6) comes first and begins with its last corner: its second corner is then
+   kept, role 2. */
+static const uint16_t fin_rotated[36] = {
+    6, 2, 7, 5, 6, 7, 0, 5, 7, 1, 6, 5, 5, 8, 9, 0, 5, 9, 1, 8, 5, 3, 9, 8, 5, 10, 11, 0, 5, 11, 1, 10, 5, 4, 11, 10};
 
 /* ---- the archive's own functions: each buffer in its place, with its own length */
 
@@ -264,12 +265,12 @@ static void try_fields(void)
     expect(s.edges == 30 && s.boundary_edges == 12, "the edges of the sample, split", 0);
 
     const flatcarol_one_answer o = flatcarol_undo_one_in(
-        12, fin_turned, 36, FLATCAROL_ANY_ROLE, out, 48, vertex_map, 12, triangle_map, 12, work, 10 * 48);
+        12, fin_rotated, 36, FLATCAROL_ANY_ROLE, out, 48, vertex_map, 12, triangle_map, 12, work, 10 * 48);
     expect(o.refusal == 0 && o.place == 0 && o.vertices == 5 && o.triangles == 3, "the fin, undone once", 0);
     expect(o.edges == 7 && o.boundary_edges == 6 && o.role == 2, "the fin's edges and role", 0);
 
     const uint8_t roles[7] = {2, 0, 0, 0, 0, 0, 0};
-    const flatcarol_several_answer l = flatcarol_undo_several_in(12, fin_turned, 36, 7, out, 48, work, 10 * 48);
+    const flatcarol_several_answer l = flatcarol_undo_several_in(12, fin_rotated, 36, 7, out, 48, work, 10 * 48);
     expect(l.refusal == 0 && l.place == 0 && l.vertices == 5 && l.triangles == 3, "the fin, undone as it goes", 0);
     expect(l.edges == 7 && l.boundary_edges == 6 && l.levels == 1, "the fin's edges and levels", 0);
     expect(memcmp(l.roles, roles, 7) == 0 && same(out, fin, 9), "the fin's roles, and the fin", 0);
@@ -312,6 +313,54 @@ static void try_edges(void)
     expect(o.edges == 27 && o.boundary_edges == 0 && o.role == 0, "the torus's edges", 0);
     l = flatcarol_undo_several_in(36, torus, 216, 0, out, 216, work, flatcarol_undo_several_work(36, 72));
     expect(l.refusal == 0 && l.edges == 108 && l.boundary_edges == 0, "the torus as it is", 0);
+}
+
+/* ---- triangles inside out, document 02's request 103 */
+
+/* Undo one on a split triangle, and undo several, which answers 0 in any case. */
+static void expect_undone(const uint16_t *list, uint64_t asked, uint64_t refusal, uint64_t place, size_t which)
+{
+    lent mesh = lend(3);
+    lent vertex_map = lend(6);
+    lent triangle_map = lend(4);
+    lent out = lend(12);
+    uint16_t work[10 * 18];
+    const flatcarol_one_answer o = flatcarol_undo_one_in(
+        6, list, 12, asked, mesh.entries, 3, vertex_map.entries, 6, triangle_map.entries, 4, work, 9 * 18);
+    const uint64_t coarse = refusal == 0 ? 3 : 0;
+    expect(o.refusal == refusal && o.place == place && o.role == 0, "a split triangle with windings", which);
+    expect(o.vertices == coarse && o.edges == coarse && o.boundary_edges == coarse, "its counts", which);
+    expect(refusal == 0 || all(mesh.entries, 0, 64, 7), "a refusal writes no mesh", which);
+    expect(refusal == 0 || all(vertex_map.entries, 0, 64, 7), "a refusal writes no vertex map", which);
+    expect(refusal == 0 || all(triangle_map.entries, 0, 64, 7), "a refusal writes no triangle map", which);
+
+    const flatcarol_several_answer l = flatcarol_undo_several_in(6, list, 12, 7, out.entries, 12, work, 10 * 18);
+    expect(l.refusal == 0 && l.place == 0, "undo several stops and does not refuse", which);
+    expect(l.levels == (refusal == FLATCAROL_INSIDE_OUT ? 0u : 1u), "and stops before a triangle inside out", which);
+    expect(l.levels == 1 || (l.triangles == 4 && same(out.entries, list, 12)), "which leaves the mesh", which);
+}
+
+static void try_inside_out(void)
+{
+    const uint16_t one_turned[12] = {3, 4, 5, 0, 5, 3, 1, 4, 3, 2, 5, 4};
+    const uint16_t last_turned[12] = {3, 4, 5, 0, 3, 5, 1, 4, 3, 2, 4, 5};
+    const uint16_t centre_turned[12] = {3, 5, 4, 0, 3, 5, 1, 4, 3, 2, 5, 4};
+    const uint16_t all_turned[12] = {5, 4, 3, 5, 3, 0, 3, 4, 1, 4, 5, 2};
+    expect_undone(one_turned, 0, FLATCAROL_INSIDE_OUT, 1, 0);
+    expect_undone(one_turned, FLATCAROL_ANY_ROLE, FLATCAROL_INSIDE_OUT, 1, 1);
+    expect_undone(last_turned, 0, FLATCAROL_INSIDE_OUT, 3, 2);
+    /* The coarse triangle goes round as the centre does, and so the corner triangles are those that disagree. */
+    expect_undone(centre_turned, 0, FLATCAROL_INSIDE_OUT, 1, 3);
+    expect_undone(all_turned, 0, FLATCAROL_ACCEPTED, 0, 4);
+
+    /* In role 1 there is no reading by either rule. */
+    uint16_t mesh[3];
+    uint16_t vertex_map[6];
+    uint16_t triangle_map[4];
+    uint16_t work[9 * 18];
+    const flatcarol_one_answer o = flatcarol_undo_one_in(
+        6, one_turned, 12, 1, mesh, 3, vertex_map, 6, triangle_map, 4, work, 9 * 18);
+    expect(o.refusal == FLATCAROL_NO_READING && o.place == 0, "no reading in role 1", 0);
 }
 
 /* ---- lengths of work */
@@ -501,14 +550,14 @@ static void try_limits(void)
 
 static void try_texts(void)
 {
-    for (uint64_t number = 0; number < 15; number++) {
-        for (uint64_t other = number + 1; other < 16; other++) {
+    for (uint64_t number = 0; number < 16; number++) {
+        for (uint64_t other = number + 1; other < 17; other++) {
             expect(
                 strcmp(flatcarol_refusal_text(number), flatcarol_refusal_text(other)) != 0,
                 "each refusal has a text of its own", number);
         }
     }
-    expect(strcmp(flatcarol_refusal_text(15), flatcarol_refusal_text(UINT64_MAX)) == 0, "other numbers have none", 0);
+    expect(strcmp(flatcarol_refusal_text(16), flatcarol_refusal_text(UINT64_MAX)) == 0, "other numbers have none", 0);
 }
 
 /* ---- two threads, each with buffers of its own */
@@ -588,6 +637,7 @@ int main(void)
     try_last_role();
     try_fields();
     try_edges();
+    try_inside_out();
     try_lengths();
     try_index_lengths();
     try_blocks();

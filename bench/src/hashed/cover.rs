@@ -2,6 +2,8 @@
 use super::components::components;
 use super::edges::Edges;
 use super::{has_equal, Triangle};
+use crate::refusals::Refusal;
+use std::ops::Range;
 
 // A centre with the three triangles about it.
 struct Tile {
@@ -10,6 +12,8 @@ struct Tile {
     // The corners of the centre, each between two vertices of the row: the first and second, the second and third, the third and
     // first.
     between: Triangle,
+    // The least of the three triangles that goes the other way round than the centre, if one does.
+    turned: Option<usize>,
 }
 
 pub struct Cover {
@@ -30,6 +34,8 @@ pub struct Reading {
     pub mesh: Vec<Triangle>,
     pub vertex_map: Vec<Option<u16>>,
     pub triangle_map: Vec<Option<u16>>,
+    // The least triangle that goes the other way round than its centre, if one does.
+    turned: Option<usize>,
 }
 
 impl Cover {
@@ -42,7 +48,11 @@ impl Cover {
             };
             let row = [opposite(ca), opposite(ab), opposite(bc)];
             if !has_equal(&row) {
-                tiles.push(Tile { four: [k, ca / 3, ab / 3, bc / 3], between });
+                // Over the edge that they share, both run from the same vertex.
+                let begins = |half: usize| triangles[half / 3][half % 3];
+                let turned = [(ca, 2), (ab, 0), (bc, 1)].into_iter().filter(|&(half, side)| begins(half) == between[side]);
+                let turned = turned.map(|(half, _)| half / 3).min();
+                tiles.push(Tile { four: [k, ca / 3, ab / 3, bc / 3], between, turned });
                 rows.push(row);
             }
         }
@@ -54,10 +64,23 @@ impl Cover {
         Cover { vertices, triangles: triangles.len(), tiles, rows, edges, components, starts }
     }
 
-    // Reads the mesh in a role. Each vertex gets a number of the splitting, and each triangle; where one would get two, or there
-    // are not as many numbers as vertices, there is no reading. No splitting is made: a tile's four triangles are matched to those
-    // of its row's splitting as they are numbered.
-    pub fn read(&self, role: usize) -> Option<Reading> {
+    // The reading in the first of the roles that has one; or refusal 15 where a role has one but for windings, and else 11.
+    pub fn first_reading(&self, roles: Range<usize>) -> Result<Reading, Refusal> {
+        let mut refusal = Refusal(11, 0);
+        for reading in roles.filter_map(|role| self.read(role)) {
+            match reading.turned {
+                None => return Ok(reading),
+                Some(place) if refusal.0 == 11 => refusal = Refusal(15, place),
+                Some(_) => (),
+            }
+        }
+        Err(refusal)
+    }
+
+    // Reads the mesh in a role, but for windings. Each vertex gets a number of the splitting, and each triangle; where one would get
+    // two, or there are not as many numbers as vertices, there is no reading. No splitting is made: a tile's four triangles are matched
+    // to those of its row's splitting as they are numbered.
+    fn read(&self, role: usize) -> Option<Reading> {
         let component = self.components[self.starts[role]?];
         let chosen: Vec<usize> = (0..self.tiles.len()).filter(|&tile| self.components[tile] == component).collect();
         if 4 * chosen.len() != self.triangles {
@@ -88,7 +111,8 @@ impl Cover {
         }
         let number = |vertex: u16| vertex_map[vertex as usize].expect("a kept vertex has its number");
         let mesh = chosen.iter().map(|&tile| self.rows[tile].map(number)).collect();
-        Some(Reading { role, vertices, mesh, vertex_map, triangle_map })
+        let turned = chosen.iter().filter_map(|&tile| self.tiles[tile].turned).min();
+        Some(Reading { role, vertices, mesh, vertex_map, triangle_map, turned })
     }
 
     // Numbers the vertices of the chosen rows upward. Answers how many there are.

@@ -11,13 +11,13 @@ pub fn undo_one(vertices: u64, list: &[u16], asked: u64, out: &mut OneOutputs, _
     one_answer(sizes.and_then(|()| undo_mesh(vertices as usize, list, asked, out)))
 }
 
-// Refusals 6 to 11, and the reading.
+// Refusals 6 to 11 and 15, and the reading.
 fn undo_mesh(vertices: usize, list: &[u16], asked: u64, out: &mut OneOutputs) -> Result<(usize, MeshCounts), Refusal> {
     let triangles = list.as_chunks().0;
     let edges = judge(vertices, triangles)?;
     let cover = Cover::new(vertices, triangles, &edges);
-    let mut roles = if asked == ANY_ROLE { 0..4 } else { asked as usize..asked as usize + 1 };
-    let reading = roles.find_map(|role| cover.read(role)).ok_or(Refusal(11, 0))?;
+    let roles = if asked == ANY_ROLE { 0..4 } else { asked as usize..asked as usize + 1 };
+    let reading = cover.first_reading(roles)?;
 
     let mesh = reading.mesh.as_flattened();
     out.mesh[..mesh.len()].copy_from_slice(mesh);

@@ -19,7 +19,7 @@ fn undo_levels(mut vertices: usize, list: &[u16], asked: u64, out: &mut [u16]) -
     let (mut levels, mut roles) = (0, [0; 7]);
     while levels < asked {
         let cover = Cover::new(vertices, &triangles, &edges);
-        let Some(reading) = (0..4).find_map(|role| cover.read(role)) else {
+        let Ok(reading) = cover.first_reading(0..4) else {
             break;
         };
         roles[levels as usize] = reading.role as u8;

@@ -1,5 +1,6 @@
 // What undo one and undo several share: the roles of a mesh.
 use super::{has_equal, mark_used, number_edges, reach, ring_table, third_vertices, write_fours};
+use crate::refusals::Refusal;
 use std::ops::Range;
 
 pub const ROLES: Range<usize> = 0..4;
@@ -31,20 +32,37 @@ pub struct Tables<'a> {
     pub ring: &'a mut [u16],
 }
 
-// The least of the roles that has a reading, and how many vertices its coarse mesh has. A mesh whose triangles are no multiple of
-// four has none.
+// What a role comes to: a reading whose coarse mesh has so many vertices; or one but for windings, where this is the least triangle
+// that is turned; or none.
+enum Tried {
+    Reading(usize),
+    Turned(usize),
+    Other,
+}
+
+// The least of the roles that has a reading, and how many vertices its coarse mesh has; or refusal 15 where that is due, and else 11. A
+// mesh whose triangles are no multiple of four has none.
 pub fn least_role(
     roles: Range<usize>,
     vertices: usize,
     list: &[u16],
     tables: &mut Tables,
     role: &mut Role,
-) -> Option<(usize, usize)> {
+) -> Result<(usize, usize), Refusal> {
+    let mut refusal = Refusal(11, 0);
     if !(list.len() / 3).is_multiple_of(4) {
-        return None;
+        return Err(refusal);
     }
     let cover = tables.cover(vertices, list, role);
-    roles.into_iter().find_map(|number| Some((number, role.try_role(number, &cover)?)))
+    for number in roles {
+        match role.try_role(number, &cover) {
+            Tried::Reading(kept) => return Ok((number, kept)),
+            // That of the least role is told, if no role has a reading.
+            Tried::Turned(place) if refusal.0 == 11 => refusal = Refusal(15, place),
+            _ => (),
+        }
+    }
+    Err(refusal)
 }
 
 impl Tables<'_> {
@@ -105,11 +123,18 @@ impl Cover<'_> {
 }
 
 impl Role<'_> {
-    // Tries a role. Where it has a reading, answers how many vertices the coarse mesh has.
-    fn try_role(&mut self, role: usize, cover: &Cover) -> Option<usize> {
+    fn try_role(&mut self, role: usize, cover: &Cover) -> Tried {
+        match self.make_maps(role, cover) {
+            Some(kept) => self.compare(kept, cover),
+            None => Tried::Other,
+        }
+    }
+
+    // All but the last comparison. Answers how many vertices the coarse mesh has.
+    fn make_maps(&mut self, role: usize, cover: &Cover) -> Option<usize> {
         self.find_tiles(role, cover)?;
         let kept = self.number_tiles(cover)?;
-        (self.map_vertices(cover) && self.map_triangles(cover) && self.compare(cover)).then_some(kept)
+        (self.map_vertices(cover) && self.map_triangles(cover)).then_some(kept)
     }
 
     // Marks the tiles that are reached from the role's start, which must be a quarter of the triangles, and puts their rows into
@@ -176,17 +201,29 @@ impl Role<'_> {
         claimed.iter().enumerate().all(|(p, &k)| faces[k as usize] as usize == p)
     }
 
-    // Whether every triangle has, under the maps, the vertices of its triangle of the splitting of the coarse mesh.
-    fn compare(&mut self, cover: &Cover) -> bool {
+    // Compares every triangle, under the maps, with its triangle of the splitting of the coarse mesh, which has so many vertices: once
+    // for the vertices and for the windings.
+    fn compare(&mut self, kept: usize, cover: &Cover) -> Tried {
         let corners = 3 * (cover.triangles() / 4);
         let splitting = &mut self.table[..4 * corners];
         write_fours(&self.coarse[..corners], &self.numbers[..corners], splitting);
         let map = &self.map[..cover.vertices];
-        cover.list.chunks_exact(3).zip(&*self.faces).all(|(t, &face)| {
+        let mut tried = Tried::Reading(kept);
+        for (k, (t, &face)) in cover.list.chunks_exact(3).zip(&*self.faces).enumerate() {
             let place = 3 * face as usize;
             let s = &splitting[place..place + 3];
-            ordered(map[t[0] as usize], map[t[1] as usize], map[t[2] as usize]) == ordered(s[0], s[1], s[2])
-        })
+            let [a, b, c] = [map[t[0] as usize], map[t[1] as usize], map[t[2] as usize]];
+            if is_rotation([a, b, c], s) {
+                continue;
+            }
+            if !is_rotation([a, c, b], s) {
+                return Tried::Other;
+            }
+            if let Tried::Reading(_) = tried {
+                tried = Tried::Turned(k);
+            }
+        }
+        tried
     }
 }
 
@@ -235,8 +272,9 @@ fn holds(keys: &[u16], values: &[u16], table: &[u16]) -> bool {
     keys.iter().zip(values).all(|(&key, &value)| table[key as usize] == value)
 }
 
-fn ordered(a: u16, b: u16, c: u16) -> [u16; 3] {
-    let (a, b) = (a.min(b), a.max(b));
-    let (low, c) = (a.min(c), a.max(c));
-    [low, b.min(c), b.max(c)]
+// Whether a triangle has three corners in the same order, beginning with any of them. Without a branch, since with which it begins is
+// what no processor foresees.
+fn is_rotation([a, b, c]: [u16; 3], s: &[u16]) -> bool {
+    let begins = |x: u16, y: u16, z: u16| (a == x) & (b == y) & (c == z);
+    begins(s[0], s[1], s[2]) | begins(s[1], s[2], s[0]) | begins(s[2], s[0], s[1])
 }

@@ -13,7 +13,7 @@ pub fn undo_one(vertices: u64, list: &[u16], asked: u64, out: &mut OneOutputs, w
     one_answer(found)
 }
 
-// Refusals 6 to 11, and the reading. The boundary edges are counted while the mesh's rings are there.
+// Refusals 6 to 11 and 15, and the reading. The boundary edges are counted while the mesh's rings are there.
 fn undo_mesh(
     vertices: usize,
     list: &[u16],
@@ -29,7 +29,7 @@ fn undo_mesh(
     let mut tables = Tables { other, rows, ring };
     let mut role = Role { marks, coarse, numbers, map, faces, table };
     let roles = if asked == ANY_ROLE { ROLES } else { asked as usize..asked as usize + 1 };
-    let (number, kept) = least_role(roles, vertices, list, &mut tables, &mut role).ok_or(Refusal(11, 0))?;
+    let (number, kept) = least_role(roles, vertices, list, &mut tables, &mut role)?;
 
     let corners = 3 * (triangles / 4);
     out.mesh[..corners].copy_from_slice(&role.coarse[..corners]);

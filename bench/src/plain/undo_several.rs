@@ -29,7 +29,7 @@ fn undo_levels(vertices: usize, list: &[u16], asked: u64, out: &mut [u16], work:
     let mut role = Role { marks, coarse, numbers, map, faces, table };
     let (mut levels, mut roles) = (0, [0; 7]);
     while levels < asked {
-        let Some((number, kept)) = least_role(ROLES, left.vertices, &current[..corners], &mut tables, &mut role) else {
+        let Ok((number, kept)) = least_role(ROLES, left.vertices, &current[..corners], &mut tables, &mut role) else {
             break;
         };
         roles[levels as usize] = number as u8;

@@ -3,9 +3,11 @@ use Prim.Native.Nat.{ℕ, _+_, _≤_}
 use native.Mathlib.Omega.{arith}
 use mathlib.Core.Path.{_≡_}
 use mathlib.Core.List.{List}
-use Rattle.theory.specs.Mesh.{triangles, Same, Proper}
+use Rattle.theory.specs.Mesh.{triangles, Same, Rotated, Proper}
 use Rattle.theory.specs.Splitting.{edges, boundaryEdges, split}
 use Rattle.theory.specs.Reading.{Reading, IsReading}
+use Rattle.theory.proofs.Agreement.{reading-same}
+use Rattle.theory.proofs.Rotation.{rotated-implies}
 use Rattle.theory.proofs.Splitting.{split-triangles}
 use Rattle.theory.proofs.SplitEdges.{split-edges, split-boundary}
 use Rattle.theory.proofs.EdgeCounts.{reading-vertices, reading-boundary}
@@ -22,13 +24,17 @@ pub split-counted : {N : ℕ} {T : List ℕ} → Proper N T → splitCounts (cou
 split-counted {N} {T} P = counts-same (omega arith) (omega (arith, split-triangles N T))
     (omega (arith, split-edges N T P)) (omega (arith, split-boundary N T (P .otherwise)))
 
-module _ {N : ℕ} {T : List ℕ} (P : Proper N T) {r : Reading} (R : IsReading Same N T r) where
+module _ {N : ℕ} {T : List ℕ} (P : Proper N T) {r : Reading} (R : IsReading Rotated N T r) where
+  -- it is one by `Same`, of which the laws of counts speak
+  is-same : IsReading Same N T r
+  is-same = reading-same rotated-implies R
+
   -- no more vertices are kept than there are
   pub kept-at-most : r .vertices ≤ N
-  kept-at-most = omega (arith, reading-vertices P R)
+  kept-at-most = omega (arith, reading-vertices P is-same)
 
   -- and so much of the coarse mesh of a reading
   pub coarse-counted : {n : ℕ} → triangles (r .mesh) ≡ n
       → coarseCounts N (boundaryEdges T) (r .vertices) n ≡ countsOf (r .vertices) (r .mesh)
   coarse-counted e = counts-same (omega arith) (omega arith)
-      (omega (arith, reading-vertices P R)) (omega (arith, reading-boundary P R))
+      (omega (arith, reading-vertices P is-same)) (omega (arith, reading-boundary P is-same))

@@ -18,11 +18,13 @@ readingIn N F M n coarse map faces =
 -- How many triangles the coarse mesh has, if there is one.
 abbrev pub centresOf : Taken → ℕ
 centresOf (taken.Reading role M n) = n
+centresOf (taken.InsideOut place) = 0
 centresOf taken.Nothing = 0
 
 -- How many vertices it has.
 abbrev pub keptOf : Taken → ℕ
 keptOf (taken.Reading role M n) = M
+keptOf (taken.InsideOut place) = 0
 keptOf taken.Nothing = 0
 
 -- What `write_reading` is lent: the three buffers of what is taken, and room for it in the outputs.
@@ -37,14 +39,16 @@ pub record ReadingLent (found : Taken) (N F : ℕ) (coarse map faces : List ℕ)
 -- The outputs afterwards: the reading is written where one is taken, and they stay where none is.
 abbrev pub leftBy : Taken → (N F : ℕ) (coarse map faces : List ℕ) → Outputs → Outputs
 leftBy (taken.Reading role M n) N F coarse map faces out = writtenReading (readingIn N F M n coarse map faces) out
+leftBy (taken.InsideOut place) N F coarse map faces out = out
 leftBy taken.Nothing N F coarse map faces out = out
 
 -- The answer to a mesh of which so much is counted, in a role.
 abbrev pub answerToReading : ℕ → Counts → OneAnswer
 answerToReading role counts = oneAccepted role (acceptedCounts counts)
 
--- The answer, where the input has N vertices and B boundary edges: the role and what is counted of the coarse mesh, or
--- "11: no reading in the role asked".
+-- The answer, where the input has N vertices and B boundary edges: the role and what is counted of the coarse mesh; or
+-- "15, in place of 11", at the triangle that stands in the way; or "11: no reading in the role asked".
 abbrev pub answerTo : Taken → (N B : ℕ) → OneAnswer
 answerTo (taken.Reading role M n) N B = answerToReading role (coarseCounts N B M n)
+answerTo (taken.InsideOut place) N B = oneRefusal 15 place
 answerTo taken.Nothing N B = oneRefusal 11 0

@@ -9,18 +9,22 @@ ghost use Prim.Native.Nat.{_≤_};
 ghost use Rattle.answers.specs.Answers.{oneAnswerOf, outputs};
 ghost use Rattle.answers.specs.Taken.{ReadingLent, leftBy, keptOf, answerTo};
 
-// A role that has a reading, with the counts of its coarse mesh; or nothing, where there is none.
+// A role that has a reading, with the counts of its coarse mesh; or the triangle that stands in the way, where there is
+// a reading by the old rule alone; or nothing, where there is none.
 pub enum Taken {
     Reading {
         role: usize,
         vertices: usize,
         triangles: usize,
     },
+    InsideOut {
+        place: usize,
+    },
     Nothing,
 }
 
 // Writes the reading that is taken, which stands in `coarse`, `map` and `faces`, to the outputs of an undo of so many
-// vertices and triangles. Where nothing is taken it writes nothing.
+// vertices and triangles. Where no reading is taken it writes nothing.
 pub fn write_reading(
     taken: Taken,
     vertices: usize,
@@ -52,18 +56,18 @@ pub fn write_reading(
 }
 
 // The answer to what is taken from an input of so many vertices and boundary edges: the role, with what is counted of
-// the coarse mesh, or 11.
+// the coarse mesh, or 15 or 11.
 pub fn answer_taken(taken: Taken, vertices: usize, boundary: usize) -> OneAnswer
     requires { ⌜ keptOf taken ≤ vertices ⌝ }
     ensures { λ r. ⌜ oneAnswerOf r ≡ answerTo taken vertices boundary ⌝ }
 {
-    let Taken::Reading {
-        role,
-        vertices: kept,
-        triangles: centres,
-    } = taken
-    else {
-        return refused_one(11, 0);
-    };
-    accepted_one(coarse_counts(vertices, boundary, kept, centres), role)
+    match taken {
+        Taken::Reading {
+            role,
+            vertices: kept,
+            triangles: centres,
+        } => accepted_one(coarse_counts(vertices, boundary, kept, centres), role),
+        Taken::InsideOut { place } => refused_one(15, place as u64),
+        Taken::Nothing => refused_one(11, 0),
+    }
 }

@@ -3,20 +3,20 @@
 use Prim.Native.Nat.{ℕ, _*_, _%_, _≤_}
 use native.Mathlib.Omega.{arith}
 use mathlib.Core.Path.{_≡_, refl, ap, _∙_}
-use mathlib.Core.Logic.{_≢_, inl}
-use mathlib.Core.List.{List, [], _∷_}
+use mathlib.Core.Logic.{_≢_}
+use mathlib.Core.List.{List}
 use lib.ListN.{length, take, length-take}
 use lib.Seq.{length-take-le}
 use Rattle.theory.specs.Limits.{anyRole}
-use Rattle.theory.specs.Mesh.{triangles, Same}
+use Rattle.theory.specs.Mesh.{triangles, Rotated}
 use Rattle.theory.specs.Splitting.{firstOn, boundaryEdges}
 use Rattle.theory.specs.Reading.{Returned}
-use Rattle.theory.specs.Choice.{NoneChosen}
-use Rattle.theory.specs.Refusals.{noReading, meshRules, Passed, Refused}
+use Rattle.theory.specs.Refusals.{meshRules, readingRules, Passed, Refused}
 use Rattle.theory.specs.Calls.{OneAnswer, Outputs, oneRefusal, refuses, accepts}
 use Rattle.theory.specs.Calls.{lentToUndoOne, undoOneSizeRules, undoOneMeshRules}
-use Rattle.theory.proofs.Refusals.{at-place-0, passed-both, refused-by-front, refused-by-back}
-use Rattle.theory.proofs.Determined.{chosen-not-refused, quarter}
+use Rattle.theory.proofs.Refusals.{passed-both, refused-by-front, refused-by-back}
+use Rattle.theory.proofs.Determined.{quarter}
+use Rattle.theory.proofs.OldRule.{chosen-passes, none-refuses, inside-out-refuses}
 use Rattle.theory.proofs.Results.{none-chosen}
 use Rattle.limits.proofs.Judgement.{judged-refused}
 use Rattle.answers.specs.declared.taken.Taken.{Taken}
@@ -30,7 +30,7 @@ use Rattle.undo_cover.specs.Cover.{CoverLent, CoverMade}
 use Rattle.undo_role.specs.Buffers.{Buffers, Rooms}
 use Rattle.undo_role.specs.Tried.{Undoable}
 use Rattle.undo_role.proofs.Rooms.{SameLengths, rooms-kept, cover-lent}
-use Rattle.undo_roles.specs.Choices.{ChoiceLent, ChosenTried, found, none}
+use Rattle.undo_roles.specs.Choices.{ChoiceLent, ChosenTried, found, insideOut, none}
 use Rattle.undo_roles.proofs.Uneven.{uneven-none}
 use Rattle.calls_undo_one.specs.Undoing.{works, UndoLent, UndoesMesh}
 use Rattle.calls_undo_one.proofs.Housed.{SizesPassed, sizes-passed, Housed, housed, undoable}
@@ -64,7 +64,7 @@ module _ {number N : ℕ} {T : List ℕ} {asked : ℕ} {out : Outputs} {b₀ : B
   -- ---- what is refused
 
   module _ {answer : OneAnswer} {out′ : Outputs} where
-    -- what 6 to 11 refuse
+    -- what 6 to 11 and 15 refuse
     refusing-by : (verdict place : ℕ) → Refused (undoOneMeshRules N T asked) verdict place
         → answer ≡ oneRefusal verdict place → out′ ≡ out → UndoesMesh N T asked out b₀ answer out′
     refusing-by verdict place refused said left =
@@ -73,13 +73,12 @@ module _ {number N : ℕ} {T : List ℕ} {asked : ℕ} {out : Outputs} {b₀ : B
         (undoOneMeshRules N T asked) verdict place (sizes .passed) refused)
         said left refl
 
-    -- a mesh without a reading
-    without : Passed (meshRules N T) → NoneChosen N T asked → answer ≡ oneRefusal 11 0 → out′ ≡ out
-        → UndoesMesh N T asked out b₀ answer out′
-    unfolding Refused
-    without passed refuted =
-        refusing-by 11 0
-        (refused-by-back (meshRules N T) (noReading N T asked ∷ []) 11 0 passed (inl (refl, at-place-0 refuted)))
+    -- a mesh whose readings are refused
+    without : (verdict place : ℕ) → Passed (meshRules N T) → Refused (readingRules N T asked) verdict place
+        → answer ≡ oneRefusal verdict place → out′ ≡ out → UndoesMesh N T asked out b₀ answer out′
+    without verdict place passed refused =
+        refusing-by verdict place
+        (refused-by-back (meshRules N T) (readingRules N T asked) verdict place passed refused)
 
   module _ {answer : OneAnswer} where
     -- a mesh that is not proper
@@ -87,15 +86,15 @@ module _ {number N : ℕ} {T : List ℕ} {asked : ℕ} {out : Outputs} {b₀ : B
         → answer ≡ oneRefusal verdict place → UndoesMesh N T asked out b₀ answer out
     refusing {verdict = verdict} {place} judged n said =
         refusing-by verdict place
-        (refused-by-front (meshRules N T) (noReading N T asked ∷ []) verdict place (judged-refused (judged .verdict) n))
+        (refused-by-front (meshRules N T) (readingRules N T asked) verdict place (judged-refused (judged .verdict) n))
         said refl
 
     -- one whose triangles are no multiple of four
     pub uneven : Passed (meshRules N T) → triangles T % 4 ≢ 0 → answer ≡ oneRefusal 11 0
         → UndoesMesh N T asked out b₀ answer out
     uneven passed n said =
-        without passed
-        (none-chosen (sizes .known) (uneven-none (triangles T) (undoable lent-housed passed .whole) n)) said refl
+        without 11 0 passed (none-refuses
+        (none-chosen (sizes .known) (uneven-none (triangles T) (undoable lent-housed passed .whole) n))) said refl
 
   -- ---- what is lent
 
@@ -117,7 +116,8 @@ module _ {number N : ℕ} {T : List ℕ} {asked : ℕ} {out : Outputs} {b₀ : B
 
     -- the coarse mesh has a quarter of the triangles
     quartered : {role M : ℕ} (n : ℕ)
-        → Returned Same N T role (readingIn N (triangles T) M n (b .coarse) (b .map) (b .faces)) → triangles T ≡ 4 * n
+        → Returned Rotated N T role (readingIn N (triangles T) M n (b .coarse) (b .map) (b .faces))
+        → triangles T ≡ 4 * n
     quartered n R =
         omega (arith, quarter (R .is), length-take (3 * n) (b .coarse), rooms .coarse .room, mesh .some)
 
@@ -137,12 +137,14 @@ module _ {number N : ℕ} {T : List ℕ} {asked : ℕ} {out : Outputs} {b₀ : B
     pub writable : {reading : Taken} → ChosenTried asked N (triangles T) T (b .coarse) (b .map) (b .faces) reading
         → ReadingLent reading N (triangles T) (b .coarse) (b .map) (b .faces) out
     writable (found {n = n} _ R) = fitting _ (omega (arith, quartered n R))
+    writable (insideOut _) = fitting _ (omega arith)
     writable (none _) = fitting _ (omega arith)
 
     -- what `answer_taken` requires after it: no more vertices are kept than there are
     pub answerable : {reading : Taken} → ChosenTried asked N (triangles T) T (b .coarse) (b .map) (b .faces) reading
         → keptOf reading ≤ N
     answerable (found _ R) = kept-at-most (mesh .proper) (R .is)
+    answerable (insideOut _) = omega arith
     answerable (none _) = omega arith
 
     -- what is written and answered is what the call does
@@ -150,16 +152,16 @@ module _ {number N : ℕ} {T : List ℕ} {asked : ℕ} {out : Outputs} {b₀ : B
         → ChosenTried asked N (triangles T) T (b .coarse) (b .map) (b .faces) reading
         → out′ ≡ leftBy reading N (triangles T) (b .coarse) (b .map) (b .faces) out
         → boundary ≡ boundaryEdges T → answer ≡ answerTo reading N boundary → UndoesMesh N T asked out b₀ answer out′
-    unfolding Passed
-    concluding (none refuted) wrote counted said = without passed refuted said wrote
+    concluding (none refuted) wrote counted said = without 11 0 passed (none-refuses refuted) said wrote
+    concluding (insideOut {k} least) wrote counted said =
+        without 15 k passed (inside-out-refuses least) said wrote
     concluding (found {role} {M} {n} chosen R) wrote counted said =
         let long : length (take (3 * n) (b .coarse)) ≡ 3 * n =
         length-take-le _ _ (omega (arith, quartered n R, rooms .coarse .room)) in
         accepts role (readingIn N (triangles T) M n (b .coarse) (b .map) (b .faces))
         (passed-both (undoOneSizeRules N (length T) asked (lentToUndoOne N T out (works b₀)))
         (undoOneMeshRules N T asked) (sizes .passed)
-        (passed-both (meshRules N T) (noReading N T asked ∷ []) passed
-        ((λ place given. chosen-not-refused chosen (given .0)), tt)))
+        (passed-both (meshRules N T) (readingRules N T asked) passed (chosen-passes chosen)))
         chosen R
         (said ∙ ap (answerToReading role)
         (ap (λ (B : ℕ). coarseCounts N B M n) counted ∙ coarse-counted (mesh .proper) (R .is) (omega arith)))

@@ -6,7 +6,7 @@ use mathlib.Core.Logic.{_≢_}
 use mathlib.Core.List.{List}
 use lib.ListN.{length, length-append, length-drop, take, drop}
 use lib.Seq.{take-at, drop-at}
-use Rattle.theory.specs.Mesh.{triangles, Same}
+use Rattle.theory.specs.Mesh.{triangles, Rotated}
 use Rattle.theory.specs.Reading.{Reading, Returned}
 use Rattle.theory.specs.Choice.{Chosen}
 use Rattle.theory.specs.Refusals.{Passed, Refused}
@@ -63,8 +63,8 @@ written-front new old e same = record {
 record Accepted (N : ℕ) (T : List ℕ) (asked : ℕ) (answer : OneAnswer) (out′ : Outputs) : Type 0 where
   reading : Reading
   passed : Passed (undoOneRules N T asked (programRooms N (triangles T)))
-  chosen : Chosen N T asked (answer .role)
-  returned : Returned Same N T (answer .role) reading
+  chosen : Chosen Rotated N T asked (answer .role)
+  returned : Returned Rotated N T (answer .role) reading
   kept : answer .common .vertices ≡ reading .vertices
   centres : answer .common .triangles ≡ triangles (reading .mesh)
   mesh : Front (reading .mesh) (out′ .mesh)

@@ -7,13 +7,14 @@ use mathlib.Core.Logic.{_≢_, _⊎_, inl, inr}
 use mathlib.Core.List.{List}
 use lib.ListN.{length}
 use lib.Seq.{ext-getD}
-use Rattle.theory.specs.Mesh.{at, triangles, On, HasEdge, Same, Reach, Proper}
+use Rattle.theory.specs.Mesh.{at, triangles, On, HasEdge, Same, Rotated, Reach, Proper}
 use Rattle.theory.specs.Splitting.{edges, edgeNo}
-use Rattle.theory.specs.Reading.{Agreement, Reading, IsReading, Kept, Between, Centre, RoleOf, Returned}
+use Rattle.theory.specs.Reading.{Agreement, renamed, Reading, IsReading, Kept, Between, Centre, RoleOf, Returned}
 use Rattle.theory.proofs.Finite.{match-size}
 use Rattle.theory.proofs.Numbering.{Numbers, numbers-of, numbers-size, upward-agree, ranks-numbers}
 use Rattle.theory.proofs.Mesh.{on-place, across-edge, edge-across, on-triangle, side}
-use Rattle.theory.proofs.Splitting.{shared-side}
+use Rattle.theory.proofs.Renaming.{renamed-at, renamed-length}
+use Rattle.theory.proofs.Splitting.{shared-side, split-length, split-centre}
 use Rattle.theory.proofs.Heart.{CoarseOn, coarse-on, common-between}
 use Rattle.theory.proofs.Centres.{
   splitting,
@@ -125,6 +126,27 @@ module _ (N : ℕ) (T : List ℕ) (P : Proper N T) (ρ : ℕ) (r : Reading) (R :
           let before : ((i + 1) % 3 + 2) % 3 ≡ i = omega arith in
           common-between (r .vertices) (r .mesh) (R .is .proper .otherwise) (coarseOf r k) i (at (r .vertexMap) v) b
           new (on l _ (f .otherEnd) d) (on m _ (subst (λ (j : ℕ). On T m (at T (3 * k + j))) before (g .oneEnd)) e)
+
+  -- so a centre agrees with its own of the splitting, corner for corner
+  pub returned-centre : (k : ℕ) → Centre r k
+      → Rotated (renamed (r .vertexMap) T) k (splitting r) (at (r .triangleMap) k)
+  returned-centre k c = record {
+    inside = rw (renamed-length (r .vertexMap) T) (omega (arith, P .otherwise .whole, below));
+    otherInside = omega (arith, split-length (r .vertices) (r .mesh), coarse-below, c .fourth);
+    by = 0;
+    few = omega arith;
+    corners = λ i b.
+        let here : 3 * k + i < length T = omega (arith, P .otherwise .whole, below) in
+        let there : 12 * coarseOf r k + i ≡ 3 * at (r .triangleMap) k + (i + 0) % 3 = omega (arith, c .fourth) in
+        renamed-at (r .vertexMap) T (3 * k + i) here ∙ returned-between k i c b
+        ∙ sym (split-centre (r .vertices) (r .mesh) (coarseOf r k) i coarse-below b) ∙ ap (at (splitting r)) there;
+  }
+    where
+      below : k < triangles T
+      below = centre-below N T (P .otherwise) r (R .is) k c
+
+      coarse-below : coarseOf r k < triangles (r .mesh)
+      coarse-below = centre-numbers N T (P .otherwise) r (R .is) .below k c
 
 -- ---- from a centre, which the start of the role is
 

@@ -3,11 +3,14 @@
 use Prim.Native.Nat.{ℕ, _+_, _*_, _^_}
 use mathlib.Core.Path.{_≡_, sym, ap, _∙_}
 use mathlib.Core.List.{List}
-use Rattle.theory.specs.Mesh.{triangles}
+use Rattle.theory.specs.Mesh.{triangles, Same}
 use Rattle.theory.specs.Splitting.{edges, boundaryEdges}
+use Rattle.theory.specs.Reading.{IsReading}
 use Rattle.theory.specs.Calls.{Answer, OneAnswer, SeveralAnswer, Outputs, acceptedMesh}
 use Rattle.theory.specs.Calls.{Splits, UndoesOne, UndoesSeveral}
-use Rattle.theory.specs.Demands.{foundMesh}
+use Rattle.theory.specs.Demands.{foundMesh, foundReading}
+use Rattle.theory.proofs.Agreement.{reading-same}
+use Rattle.theory.proofs.Rotation.{rotated-implies}
 use Rattle.theory.proofs.SplitEdges.{split-edges, split-boundary}
 use Rattle.theory.proofs.EdgeCounts.{reading-vertices, reading-boundary}
 use Rattle.theory.proofs.Results.{split-accepted, Accepted, one-accepted-found}
@@ -40,6 +43,10 @@ module _ {N : ℕ} {T : List ℕ} {asked : ℕ} {out out′ : Outputs} {works wo
   acceptance : Accepted N T asked out answer out′
   acceptance = one-accepted-found U none
 
+  -- a reading by `Same` too, of which the laws of counts speak
+  is-same : IsReading Same N T (foundReading N T answer out′)
+  is-same = reading-same rotated-implies (acceptance .returned .is)
+
   -- the answer counts the coarse mesh that was written
   pub returned-counted :
       answer .common ≡ acceptedMesh (answer .common .vertices) (foundMesh (answer .common) (out′ .mesh))
@@ -47,12 +54,12 @@ module _ {N : ℕ} {T : List ℕ} {asked : ℕ} {out out′ : Outputs} {works wo
 
   -- its edges are as many as the vertices that are not kept
   pub returned-edges : N ≡ answer .common .vertices + answer .common .edges
-  returned-edges = reading-vertices (acceptance .within .proper) (acceptance .returned .is)
+  returned-edges = reading-vertices (acceptance .within .proper) is-same
       ∙ ap (λ (a : Answer). answer .common .vertices + a .edges) (sym returned-counted)
 
   -- its boundary edges are half of the input's
   pub returned-boundary : boundaryEdges T ≡ 2 * answer .common .boundaryEdges
-  returned-boundary = reading-boundary (acceptance .within .proper) (acceptance .returned .is)
+  returned-boundary = reading-boundary (acceptance .within .proper) is-same
       ∙ ap (λ (a : Answer). 2 * a .boundaryEdges) (sym returned-counted)
 
 -- ---- undo several

@@ -1,6 +1,6 @@
--- `On`, an edge, its being regular, sameness, a shared edge, `Reach` and being proper are decided. Each has a Bool test
--- that computes (`..Test`), a proof that the test passes only where it is so (`..-sound`) and one that it passes
--- wherever it is so (`..-complete`), and the decision made from these (`..?`).
+-- `On`, an edge, its being regular, sameness, rotation, a shared edge, `Reach` and being proper are decided. Each has a
+-- Bool test that computes (`..Test`), a proof that the test passes only where it is so (`..-sound`) and one that it
+-- passes wherever it is so (`..-complete`), and the decision made from these (`..?`).
 -- Whoever computes with a test or a decision says `unfolding` and its name: it opens all that it is made of.
 use Prim.Native.Nat.{ℕ, zero, suc, _+_, _-_, _*_, _/_, _%_, _≤_, _<_, min}
 use native.Mathlib.Omega.{arith}
@@ -13,12 +13,15 @@ use mathlib.Core.List.{List·Memᴰ·append-cases as member-append}
 use lib.Dec.{T as So, T-not, not-T, eqb, ltb, eqb→eq, ltb→lt, lt→ltb}
 use lib.ListN.{length, take, drop, length-append, length-take, length-drop}
 use lib.Seq.{getD-take, getD-drop}
-use Rattle.theory.specs.Mesh.{at, triangles, On, HasEdge, Regular, Same, Share, Reach, here, step}
+use Rattle.theory.specs.Mesh.{at, triangles, On, HasEdge, Regular, Same, Rotated, Share}
+use Rattle.theory.specs.Mesh.{Reach, here, step}
 use Rattle.theory.specs.Mesh.{OtherwiseProper, Proper}
 use Rattle.theory.proofs.Tests.{
   decided,
   and-sound,
   and-complete,
+  and₃-sound,
+  and₃-complete,
   and₅-sound,
   and₅-complete,
   or-sound,
@@ -47,6 +50,9 @@ use Rattle.theory.proofs.Tests.{
   allBelow,
   allBelow-sound,
   allBelow-complete,
+  someBelow,
+  someBelow-sound,
+  someBelow-complete,
   at-member,
   member-at,
   allApart,
@@ -264,6 +270,54 @@ sameTest-complete T k S l s =
 unfoldable pub same? : (T : List ℕ) (k : ℕ) (S : List ℕ) (l : ℕ) → Dec (Same T k S l)
 unfolding sameTest
 same? T k S l = decided (sameTest T k S l) (sameTest-sound T k S l) (sameTest-complete T k S l)
+
+-- ---- Rotated
+
+-- corner i of triangle k is the corner of triangle l that is so many further on
+unfoldable pub turnedCornerTest : List ℕ → ℕ → List ℕ → ℕ → ℕ → ℕ → Bool
+turnedCornerTest T k S l by i = eqb (at T (3 * k + i)) (at S (3 * l + (i + by) % 3))
+
+-- the same of its three corners
+unfoldable pub turnedTest : List ℕ → ℕ → List ℕ → ℕ → ℕ → Bool
+unfolding allBelow turnedCornerTest
+turnedTest T k S l by = allBelow (turnedCornerTest T k S l by) 3
+
+-- both are inside their lists, and one of the three turns takes the one to the other
+unfoldable pub rotatedTest : List ℕ → ℕ → List ℕ → ℕ → Bool
+unfolding someBelow turnedTest
+rotatedTest T k S l =
+    ltb (3 * k + 2) (length T) && (ltb (3 * l + 2) (length S) && someBelow (turnedTest T k S l) 3)
+
+pub rotatedTest-sound : (T : List ℕ) (k : ℕ) (S : List ℕ) (l : ℕ) → So (rotatedTest T k S l) → Rotated T k S l
+unfolding rotatedTest turnedTest turnedCornerTest
+rotatedTest-sound T k S l t =
+    go (and₃-sound (ltb (3 * k + 2) (length T)) (ltb (3 * l + 2) (length S)) (someBelow (turnedTest T k S l) 3) t)
+  where
+    go : So (ltb (3 * k + 2) (length T)) × So (ltb (3 * l + 2) (length S)) × So (someBelow (turnedTest T k S l) 3)
+        → Rotated T k S l
+    go (inside, other, some) =
+        let found : (by : ℕ) × (by < 3) × So (turnedTest T k S l by) = someBelow-sound (turnedTest T k S l) 3 some in
+        record {
+          inside = ltb→lt (3 * k + 2) (length T) inside;
+          otherInside = ltb→lt (3 * l + 2) (length S) other;
+          by = found .0;
+          few = found .1;
+          corners = λ i b. eqb→eq (at T (3 * k + i)) (at S (3 * l + (i + found .0) % 3))
+              (allBelow-sound (turnedCornerTest T k S l (found .0)) 3 (found .2) i b);
+        }
+
+pub rotatedTest-complete : (T : List ℕ) (k : ℕ) (S : List ℕ) (l : ℕ) → Rotated T k S l → So (rotatedTest T k S l)
+unfolding rotatedTest turnedTest turnedCornerTest
+rotatedTest-complete T k S l r =
+    and₃-complete (ltb (3 * k + 2) (length T)) (ltb (3 * l + 2) (length S)) (someBelow (turnedTest T k S l) 3)
+    (lt→ltb (3 * k + 2) (length T) (r .inside)) (lt→ltb (3 * l + 2) (length S) (r .otherInside))
+    (someBelow-complete (turnedTest T k S l) 3 (r .by) (r .few)
+    (allBelow-complete (turnedCornerTest T k S l (r .by)) 3
+    (λ i b. eq→eqb (at T (3 * k + i)) (at S (3 * l + (i + r .by) % 3)) (r .corners i b))))
+
+unfoldable pub rotated? : (T : List ℕ) (k : ℕ) (S : List ℕ) (l : ℕ) → Dec (Rotated T k S l)
+unfolding rotatedTest
+rotated? T k S l = decided (rotatedTest T k S l) (rotatedTest-sound T k S l) (rotatedTest-complete T k S l)
 
 -- ---- Share
 

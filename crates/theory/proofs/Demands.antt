@@ -6,7 +6,7 @@ use native.Mathlib.Omega.{arith}
 use mathlib.Core.Path.{_≡_, sym, ap, _∙_, subst₂}
 use mathlib.Core.List.{List, map}
 use Rattle.theory.specs.Limits.{mostTriangles, mostSplitTriangles, anyRole}
-use Rattle.theory.specs.Mesh.{triangles, Same}
+use Rattle.theory.specs.Mesh.{triangles, Same, Rotated}
 use Rattle.theory.specs.Splitting.{edges, split}
 use Rattle.theory.specs.Reading.{Reading, ReadingIn, Returned}
 use Rattle.theory.specs.Choice.{LeastRole, Chosen, NoneChosen}
@@ -14,15 +14,15 @@ use Rattle.theory.specs.Calls.{Answer, OneAnswer, Outputs, acceptedMesh,
 use Rattle.theory.specs.Calls.{lentToSplit, Splits, lentToUndoOne, writtenReading, acceptedReading, UndoesOne}
 use Rattle.theory.specs.Demands.{Enough, Within, SameApart, foundMesh, foundReading, SplitsBack, Exactly}
 use Rattle.theory.proofs.Splitting.{edges-le, split-triangles}
-use Rattle.theory.proofs.Lawful.{same-lawful}
+use Rattle.theory.proofs.Rotation.{rotated-lawful}
 use Rattle.theory.proofs.SplitProper.{split-proper, vertices-le, itself, split-returned}
 use Rattle.theory.proofs.Unique.{coarse-matched}
 use Rattle.theory.proofs.Determined.{returned-in}
 use Rattle.theory.proofs.Determined.{quarter, splits-determined, undoes-one-determined}
 use Rattle.theory.proofs.Results.{reading-within, split-accepts, SplitAccepted, split-accepted, reading-splits}
 use Rattle.theory.proofs.Results.{one-accepts, one-accepted-found, outcome, outcome-exactly}
-use Rattle.theory.proofs.Results.{chosen-named, none-named, chosen-least, none-least}
-use Rattle.theory.proofs.Results.{chosen-accepted, none-refused}
+use Rattle.theory.proofs.Results.{chosen-named, chosen-least, named-says, any-says}
+use Rattle.theory.proofs.Results.{chosen-accepted, inside-out-refused, none-refused}
 
 -- ---- demand 2: what undo one returns is split back to its input
 
@@ -83,8 +83,8 @@ pub split-undone : {N : ℕ} {T : List ℕ} {out : Outputs} {works : List (List 
     (writtenReading (itself N T) out) (map zeros works)
 split-undone {N} {T} W enough = one-accepts (split-within W) enough (Chosen.named (omega arith) (returned-in R)) R
   where
-    R : Returned Same (N + edges T) (split N T) 0 (itself N T)
-    R = split-returned N T (W .proper) same-lawful (W .some)
+    R : Returned Rotated (N + edges T) (split N T) 0 (itself N T)
+    R = split-returned N T (W .proper) rotated-lawful (W .some)
 
 -- ".. and comes back"
 pub split-comes-back : {N : ℕ} {T : List ℕ} {out out′ : Outputs} {works works′ : List (List ℕ)} {answer : OneAnswer}
@@ -113,21 +113,22 @@ round-trip {N} {T} {o′ = o′} {a = a} {out} {out′} {works} {works′} {answ
 
 -- ---- demand 3: undo one accepts exactly what has a reading
 
--- any two readings in one role have the same coarse mesh, apart from numbering and order
-pub reading-unique : {most N : ℕ} {T : List ℕ} {role : ℕ} → Within most N T → (R S : ReadingIn Same N T role)
+-- any two readings in one role have the same coarse mesh, apart from numbering, order and rotation of corners
+pub reading-unique : {most N : ℕ} {T : List ℕ} {role : ℕ} → Within most N T → (R S : ReadingIn Rotated N T role)
     → SameApart (R .reading .vertices) (R .reading .mesh) (S .reading .vertices) (S .reading .mesh)
 reading-unique {N = N} {T} {role} W R S =
-    coarse-matched N T (W .proper) same-lawful (R .reading) (S .reading) (R .is) (S .is) 0 role (R .inRole) (S .inRole)
+    coarse-matched N T (W .proper) rotated-lawful (R .reading) (S .reading) (R .is) (S .is) 0 role (R .inRole)
+    (S .inRole)
 
 module _ {N : ℕ} {T : List ℕ} {asked : ℕ} {out out′ : Outputs} {works works′ : List (List ℕ)} {answer : OneAnswer}
     (U : UndoesOne N T asked out works answer out′ works′) (none : answer .common .refusal ≡ 0) where
   -- what is returned is a reading in the role answered, numbered as document 01 says, and nothing else is written
-  pub returned-is-a-reading : Returned Same N T (answer .role) (foundReading N T answer out′)
+  pub returned-is-a-reading : Returned Rotated N T (answer .role) (foundReading N T answer out′)
       × (out′ ≡ writtenReading (foundReading N T answer out′) out)
   returned-is-a-reading = (one-accepted-found U none .returned, one-accepted-found U none .wrote)
 
-  -- .. and it is the one: any reading in that role has the returned mesh, apart from numbering and order
-  pub returned-is-the-reading : (R : ReadingIn Same N T (answer .role))
+  -- .. and it is the one: any reading in that role has the returned mesh, apart from numbering, order and rotation
+  pub returned-is-the-reading : (R : ReadingIn Rotated N T (answer .role))
       → SameApart (R .reading .vertices) (R .reading .mesh) (answer .common .vertices)
       (foundMesh (answer .common) (out′ .mesh))
   returned-is-the-reading R = reading-unique (one-accepted-found U none .within) R (record {
@@ -140,18 +141,26 @@ module _ {N : ℕ} {T : List ℕ} {asked : ℕ} {out out′ : Outputs} {works wo
   pub role-is-asked : asked ≤ 3 → answer .role ≡ asked
   role-is-asked l = chosen-named l (one-accepted-found U none .chosen) .0
 
--- asked 0 to 3: accepted exactly if some coarse mesh is a reading in the role asked, and else refused with 11
+-- asked 0 to 3: accepted exactly if some coarse mesh is a reading in the role asked; if not, refused with 15 exactly if
+-- some is one by the old rule, and with 11 exactly if none is
 pub accepted-exactly : {N : ℕ} {T : List ℕ} {role : ℕ} {out out′ : Outputs} {works works′ : List (List ℕ)}
     {answer : OneAnswer} → Within mostTriangles N T → Enough (lentToUndoOne N T out works) → role ≤ 3
-    → UndoesOne N T role out works answer out′ works′ → Exactly (ReadingIn Same N T role) (answer .common .refusal)
-accepted-exactly W enough l U =
-    outcome-exactly (outcome W enough (omega arith) U) (λ c. chosen-named l c .1) (none-named l)
+    → UndoesOne N T role out works answer out′ works′
+    → Exactly (ReadingIn Rotated N T role) (ReadingIn Same N T role) (answer .common .refusal)
+accepted-exactly W enough l U = outcome-exactly (outcome W enough (omega arith) U) (named-says l)
 
 -- .. and there are such results: an acceptance where there is a reading in the role asked ..
 pub reading-accepted : {N : ℕ} {T : List ℕ} {role : ℕ} {out : Outputs} {works : List (List ℕ)}
-    → Within mostTriangles N T → Enough (lentToUndoOne N T out works) → role ≤ 3 → ReadingIn Same N T role
+    → Within mostTriangles N T → Enough (lentToUndoOne N T out works) → role ≤ 3 → ReadingIn Rotated N T role
     → (r : Reading) × UndoesOne N T role out works (acceptedReading role r) (writtenReading r out) (map zeros works)
 reading-accepted W enough l R = chosen-accepted W enough (Chosen.named l R)
+
+-- .. refusal 15 where there is one by the old rule alone ..
+pub old-reading-refused : {N : ℕ} {T : List ℕ} {role : ℕ} {out : Outputs} {works : List (List ℕ)}
+    → Within mostTriangles N T → Enough (lentToUndoOne N T out works) → role ≤ 3 → (ReadingIn Rotated N T role → ⊥)
+    → ReadingIn Same N T role
+    → (place : ℕ) × UndoesOne N T role out works (oneRefusal 15 place) out (map zeros works)
+old-reading-refused W enough l none S = inside-out-refused W enough (NoneChosen.named l none) (Chosen.named l S)
 
 -- .. and refusal 11 where there is none
 pub no-reading-refused : {N : ℕ} {T : List ℕ} {role : ℕ} {out : Outputs} {works : List (List ℕ)}
@@ -163,11 +172,11 @@ no-reading-refused W enough l none = none-refused W enough (NoneChosen.named l n
 pub least-accepted-exactly : {N : ℕ} {T : List ℕ} {out out′ : Outputs} {works works′ : List (List ℕ)}
     {answer : OneAnswer} → Within mostTriangles N T → Enough (lentToUndoOne N T out works)
     → UndoesOne N T anyRole out works answer out′ works′
-    → Exactly ((role : ℕ) × ReadingIn Same N T role) (answer .common .refusal)
-least-accepted-exactly W enough U = outcome-exactly (outcome W enough (omega arith) U)
-    (λ c. (_, chosen-least c .has)) (λ n R. none-least n .none (R .0) (R .1))
+    → Exactly ((role : ℕ) × ReadingIn Rotated N T role) ((role : ℕ) × ReadingIn Same N T role) (answer .common .refusal)
+least-accepted-exactly W enough U = outcome-exactly (outcome W enough (omega arith) U) any-says
 
--- .. and the role answered is the least that has one
+-- .. and the role answered is the least that has one: a lesser one that has one by the old rule alone hides nothing
 pub role-is-least : {N : ℕ} {T : List ℕ} {out out′ : Outputs} {works works′ : List (List ℕ)} {answer : OneAnswer}
-    → UndoesOne N T anyRole out works answer out′ works′ → answer .common .refusal ≡ 0 → LeastRole Same N T (answer .role)
+    → UndoesOne N T anyRole out works answer out′ works′ → answer .common .refusal ≡ 0
+    → LeastRole Rotated N T (answer .role)
 role-is-least U none = chosen-least (one-accepted-found U none .chosen)

@@ -6,11 +6,11 @@ use native.Mathlib.Omega.{arith}
 use mathlib.Core.Path.{_≡_, refl, sym, ap, ap₂, _∙_, subst, subst₂}
 use mathlib.Core.List.{List, [], _∷_}
 use lib.ListN.{length}
-use Rattle.theory.specs.Mesh.{triangles, Same, Proper}
+use Rattle.theory.specs.Mesh.{triangles, Rotated, Proper}
 use Rattle.theory.specs.Reading.{Agreement, Reading, IsReading, RoleOf, ReadingIn, Returned}
 use Rattle.theory.specs.Choice.{LeastRole, Chosen, named, least, NoneChosen}
 use Rattle.theory.specs.Choice.{Several, reached, stopped, undone}
-use Rattle.theory.specs.Refusals.{Room, notThrees, meshRules, noReading, Passed}
+use Rattle.theory.specs.Refusals.{Room, notThrees, meshRules, readingRules, Passed}
 use Rattle.theory.specs.Calls.{Answer, OneAnswer, SeveralAnswer, Outputs, refusal, oneRefusal, severalRefusal}
 use Rattle.theory.specs.Calls.{acceptedLevels, written, writtenReading, acceptedReading}
 use Rattle.theory.specs.Calls.{Splits, undoOneRules, UndoesOne, UndoesSeveral}
@@ -20,7 +20,7 @@ use Rattle.theory.specs.Index.{faces, TextAnswer, textRefusal, ReadsInde
 use Rattle.theory.specs.Program.{answerLine, readingText, PrintsMesh, Prints}
 use Rattle.theory.proofs.Finite.{match-size}
 use Rattle.theory.proofs.Splitting.{split-triangles}
-use Rattle.theory.proofs.Agreement.{same-implies}
+use Rattle.theory.proofs.Rotation.{rotated-implies}
 use Rattle.theory.proofs.Unique.{returned-unique}
 use Rattle.theory.proofs.Refusals.{least-place-unique, refused-unique, passed-not-refused, passed-front}
 use Rattle.theory.proofs.Refusals.{threes-whole, passed-proper}
@@ -43,18 +43,20 @@ least-role-unique a b =
     least-place-unique (record { here = a .has; before = a .before }) (record { here = b .has; before = b .before })
 
 -- one number asked chooses one role
-pub chosen-unique : {N : ℕ} {T : List ℕ} {asked ρ σ : ℕ} → Chosen N T asked ρ → Chosen N T asked σ → ρ ≡ σ
+pub chosen-unique : {agree : Agreement} {N : ℕ} {T : List ℕ} {asked ρ σ : ℕ} → Chosen agree N T asked ρ
+    → Chosen agree N T asked σ → ρ ≡ σ
 chosen-unique (named l a) (named m b) = refl
 chosen-unique (named l a) (least b) = absurd (omega arith)
 chosen-unique (least a) (named m b) = absurd (omega arith)
 chosen-unique (least a) (least b) = least-role-unique a b
 
--- where a role is chosen, 11 is not given
-pub chosen-not-refused : {N : ℕ} {T : List ℕ} {asked ρ : ℕ} → Chosen N T asked ρ → NoneChosen N T asked → ⊥
-chosen-not-refused (named l a) (named m b) = b a
-chosen-not-refused (named l a) (least b) = absurd (omega arith)
-chosen-not-refused (least a) (named m b) = absurd (omega arith)
-chosen-not-refused (least a) (least b) = b .none _ (a .has)
+-- where a role is chosen, it is not so that none is
+pub chosen-not-none : {agree : Agreement} {N : ℕ} {T : List ℕ} {asked ρ : ℕ} → Chosen agree N T asked ρ
+    → NoneChosen agree N T asked → ⊥
+chosen-not-none (named l a) (named m b) = b a
+chosen-not-none (named l a) (least b) = absurd (omega arith)
+chosen-not-none (least a) (named m b) = absurd (omega arith)
+chosen-not-none (least a) (least b) = b .none _ (a .has)
 
 -- ---- the levels of undo several
 
@@ -86,7 +88,7 @@ several-unique (suc n) P (undone r b R S) (stopped a) = absurd (a .none _ (b .ha
 several-unique (suc n) {T = T} P (undone {role = ρ} r a R S)
     (undone {levels = m} {role = σ} {M = M′} {roles = σs} {C = C′} s b R′ S′) =
     let same-role : ρ ≡ σ = least-role-unique a b in
-    let same-reading : s ≡ r = returned-unique _ T P same-implies s r ρ (rw same-role R′) R in
+    let same-reading : s ≡ r = returned-unique _ T P rotated-implies s r ρ (rw same-role R′) R in
     ap₂ one-more same-role
     (several-unique n (R .is .proper) S
     (subst (λ (q : Reading). Several n (q .vertices) (q .mesh) m σs M′ C′) same-reading S′))
@@ -112,13 +114,14 @@ splits-determined (Splits.accepts R e f g) (Splits.accepts S e′ f′ g′) = (
 -- where undo one refuses nothing, the role chosen and the reading returned in it are one
 one-result : {N : ℕ} {T : List ℕ} {asked ρ σ : ℕ} {r s : Reading} (rooms : List Room)
     → Passed (undoOneRules N T asked rooms)
-    → Chosen N T asked ρ → Chosen N T asked σ → Returned Same N T ρ r → Returned Same N T σ s → (ρ ≡ σ) × (r ≡ s)
+    → Chosen Rotated N T asked ρ → Chosen Rotated N T asked σ → Returned Rotated N T ρ r → Returned Rotated N T σ s
+    → (ρ ≡ σ) × (r ≡ s)
 unfolding Passed
 one-result {N} {T} {asked} {ρ} {σ} {r} {s} rooms passed c c′ d d′ =
     let proper : Proper N T =
-    judged N T (passed .1 .0) (passed-front (meshRules N T) (noReading N T asked ∷ []) (passed .1 .1 .1 .1 .1)) in
+    judged N T (passed .1 .0) (passed-front (meshRules N T) (readingRules N T asked) (passed .1 .1 .1 .1 .1)) in
     let same-role : ρ ≡ σ = chosen-unique c c′ in
-    (same-role, returned-unique N T proper same-implies r s ρ d (rw same-role d′))
+    (same-role, returned-unique N T proper rotated-implies r s ρ d (rw same-role d′))
 
 pub undoes-one-determined : {N : ℕ} {T : List ℕ} {asked : ℕ} {out o p : Outputs} {works w v : List (List ℕ)}
     {a b : OneAnswer}

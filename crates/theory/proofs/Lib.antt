@@ -21,11 +21,13 @@ pub mod Centres
 pub mod BetweenTwo
 pub mod Rows
 pub mod Lawful
+pub mod Rotation
 pub mod SplitProper
 pub mod EdgeCounts
 pub mod Unique
 pub mod Canonical
 pub mod Determined
+pub mod OldRule
 pub mod Results
 pub mod Demands
 pub mod SeveralDemands
@@ -42,3 +44,4 @@ pub mod Index
 pub mod IndexDemands
 pub mod ReadingTests
 pub mod Undoing
+pub mod InsideOut

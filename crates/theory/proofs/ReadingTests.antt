@@ -8,7 +8,7 @@ use mathlib.Core.Bool.{Bool, not, _&&_}
 use mathlib.Core.List.{List}
 use lib.Dec.{T as So, T-not, not-T, eqb, ltb, eqb→eq, ltb→lt, lt→ltb}
 use lib.ListN.{length}
-use Rattle.theory.specs.Mesh.{at, triangles, On, Same}
+use Rattle.theory.specs.Mesh.{at, triangles, On, Same, Rotated}
 use Rattle.theory.specs.Counting.{count, firstFrom}
 use Rattle.theory.specs.Splitting.{sameEdge, firstOn, isFirst, edges, edgeNo, four, fours, split}
 use Rattle.theory.specs.Reading.{Agreement, Match, Matched, renamed, Reading, IsReading, Kept, Centre, Across}
@@ -42,6 +42,7 @@ use Rattle.theory.proofs.Decide.{on-le, belowTest, belowTest-sound, bel
 use Rattle.theory.proofs.Decide.{usedTest, usedTest-sound, usedTest-complete}
 use Rattle.theory.proofs.Decide.{hasEdgeTest, hasEdgeTest-sound, hasEdgeTest-complete}
 use Rattle.theory.proofs.Decide.{sameTest, sameTest-sound, sameTest-complete}
+use Rattle.theory.proofs.Decide.{rotatedTest, rotatedTest-sound, rotatedTest-complete}
 use Rattle.theory.proofs.Decide.{properTest, properTest-sound, properTest-complete}
 
 -- ---- Match
@@ -96,6 +97,10 @@ pub record Decides (agree : Agreement) (test : AgreementTest) : Type 0 where
 -- as `sameTest` does for "the same three vertices"
 pub same-decided : Decides Same sameTest
 same-decided = record { sound = sameTest-sound; complete = sameTest-complete }
+
+-- and `rotatedTest` for "up to rotation of corners"
+pub rotated-decided : Decides Rotated rotatedTest
+rotated-decided = record { sound = rotatedTest-sound; complete = rotatedTest-complete }
 
 -- each triangle, renamed, agrees with its match
 unfoldable pub agreedTest : AgreementTest → List ℕ → List ℕ → List ℕ → List ℕ → Bool

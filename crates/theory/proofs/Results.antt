@@ -10,27 +10,30 @@ use mathlib.Core.List.{List, [], _∷_, _++_, map}
 use lib.ListN.{length, take, drop, replicate}
 use lib.Seq.{take-at, take-take}
 use Rattle.theory.specs.Limits.{mostTriangles, mostSplitTriangles, anyRole, mostLevels}
-use Rattle.theory.specs.Mesh.{triangles, Same, Proper}
+use Rattle.theory.specs.Mesh.{triangles, Same, Rotated, Proper}
 use Rattle.theory.specs.Splitting.{edges, boundaryEdges, split}
 use Rattle.theory.specs.Reading.{Agreement, Matched, Reading, IsReading, ReadingIn, Returned}
 use Rattle.theory.specs.Choice.{LeastRole, NoRole, Chosen, NoneChosen}
 use Rattle.theory.specs.Choice.{Several, reached, stopped, undone, sevenPlaces}
-use Rattle.theory.specs.Refusals.{Rule, Room, Short, askedTooMuch, tooShort, sizeRules, meshRules, noReading}
-use Rattle.theory.specs.Refusals.{Passed, Refused}
+use Rattle.theory.specs.Refusals.{Rule, Room, Short, askedTooMuch, tooShort, sizeRules, meshRules, InsideOut}
+use Rattle.theory.specs.Refusals.{readingRules, LeastPlace, Passed, Refused}
 use Rattle.theory.specs.Calls.{Answer, OneAnswer, SeveralAnswer, Outputs, acceptedMesh, oneRefusal}
 use Rattle.theory.specs.Calls.{acceptedLevels, written, zeros, lentToSplit, Splits}
 use Rattle.theory.specs.Calls.{undoOneRules, lentToUndoOne, writtenReading, acceptedReading, UndoesOne}
 use Rattle.theory.specs.Calls.{undoSeveralRules, lentToUndoSeveral, UndoesSeveral}
 use Rattle.theory.specs.Demands.{Enough, Within, foundMesh, foundReading, foundRoles, SplitsBack, Exactly}
 use Rattle.theory.proofs.Finite.{match-size}
-use Rattle.theory.proofs.Refusals.{at-place-0, refused-above, passed-front, passed-back, passed-both}
+use Rattle.theory.proofs.Refusals.{refused-above, passed-front, passed-back, passed-both}
 use Rattle.theory.proofs.Refusals.{refused-by-back, back-refuses, not-given, asked-known, sized, sized-passed}
 use Rattle.theory.proofs.Refusals.{passed-proper, proper-passed}
 use Rattle.theory.proofs.Splitting.{split-length}
-use Rattle.theory.proofs.Lawful.{same-lawful}
+use Rattle.theory.proofs.Agreement.{reading-same, readingIn-same}
+use Rattle.theory.proofs.Rotation.{rotated-implies, rotated-lawful}
 use Rattle.theory.proofs.EdgeCounts.{reading-boundary}
 use Rattle.theory.proofs.Canonical.{returned-exists}
-use Rattle.theory.proofs.Determined.{chosen-not-refused, quarter}
+use Rattle.theory.proofs.Determined.{quarter}
+use Rattle.theory.proofs.OldRule.{chosen-reading, inside-out, none-old, chosen-passes, inside-out-refuses}
+use Rattle.theory.proofs.OldRule.{none-refuses}
 
 -- ---- proper within the limits, with room enough: 2 to 10 are not given
 
@@ -113,7 +116,7 @@ found-split N T out e f =
 
 -- for the mesh of a reading, that is the input under the maps
 pub reading-splits : {N : ℕ} {T : List ℕ} {r : Reading} {out out′ : List ℕ} {works works′ : List (List ℕ)}
-    {answer : Answer} → IsReading Same N T r
+    {answer : Answer} → IsReading Rotated N T r
     → (answer ≡ acceptedMesh (r .vertices + edges (r .mesh)) (split (r .vertices) (r .mesh)))
     × (out′ ≡ written (split (r .vertices) (r .mesh)) out) × (works′ ≡ map zeros works)
     → SplitsBack N T r out works answer out′ works′
@@ -123,7 +126,7 @@ reading-splits {N} {T} {r} {out} R (e, f, g) = record {
   clears = g;
   sameVertices = ap (λ (a : Answer). a .vertices) e ∙ sym (match-size (R .matched .vertices));
   sameTriangles = ap (λ (a : Answer). a .triangles) e ∙ sym (match-size (R .matched .faces));
-  input = subst₂ (λ (M : ℕ) (S : List ℕ). Matched Same (r .vertexMap) (r .triangleMap) N T M S)
+  input = subst₂ (λ (M : ℕ) (S : List ℕ). Matched Rotated (r .vertexMap) (r .triangleMap) N T M S)
       (ap (λ (a : Answer). a .vertices) (sym e)) (sym (found-split (r .vertices) (r .mesh) out e f)) (R .matched);
 }
 
@@ -152,43 +155,41 @@ split-accepted {N} {T} {out} {answer = answer} (Splits.accepts passed e f _) non
 -- ---- which role is chosen
 
 -- a role is chosen for the numbers 0 to 4
-chosen-asked : {N : ℕ} {T : List ℕ} {asked role : ℕ} → Chosen N T asked role → asked ≤ anyRole
+chosen-asked : {agree : Agreement} {N : ℕ} {T : List ℕ} {asked role : ℕ} → Chosen agree N T asked role → asked ≤ anyRole
 chosen-asked (Chosen.named l _) = omega arith
 chosen-asked (Chosen.least _) = omega arith
 
 -- and so is none
-none-asked : {N : ℕ} {T : List ℕ} {asked : ℕ} → NoneChosen N T asked → asked ≤ anyRole
+none-asked : {agree : Agreement} {N : ℕ} {T : List ℕ} {asked : ℕ} → NoneChosen agree N T asked → asked ≤ anyRole
 none-asked (NoneChosen.named l _) = omega arith
 none-asked (NoneChosen.least _) = omega arith
 
--- the role chosen has a reading
-chosen-reading : {N : ℕ} {T : List ℕ} {asked role : ℕ} → Chosen N T asked role → ReadingIn Same N T role
-chosen-reading (Chosen.named _ R) = R
-chosen-reading (Chosen.least L) = L .has
-
 -- asked 0 to 3, the role chosen is the one asked
-pub chosen-named : {N : ℕ} {T : List ℕ} {asked role : ℕ} → asked ≤ 3 → Chosen N T asked role
-    → (role ≡ asked) × ReadingIn Same N T asked
+pub chosen-named : {agree : Agreement} {N : ℕ} {T : List ℕ} {asked role : ℕ} → asked ≤ 3 → Chosen agree N T asked role
+    → (role ≡ asked) × ReadingIn agree N T asked
 chosen-named l (Chosen.named _ R) = (refl, R)
 chosen-named l (Chosen.least _) = absurd (omega arith)
 
 -- and none is chosen where it has no reading
-pub none-named : {N : ℕ} {T : List ℕ} {asked : ℕ} → asked ≤ 3 → NoneChosen N T asked → ReadingIn Same N T asked → ⊥
+pub none-named : {agree : Agreement} {N : ℕ} {T : List ℕ} {asked : ℕ} → asked ≤ 3 → NoneChosen agree N T asked
+    → ReadingIn agree N T asked → ⊥
 none-named l (NoneChosen.named _ none) = none
 none-named l (NoneChosen.least _) = absurd (omega arith)
 
 -- asked 4, the role chosen is the least one
-pub chosen-least : {N : ℕ} {T : List ℕ} {role : ℕ} → Chosen N T anyRole role → LeastRole Same N T role
+pub chosen-least : {agree : Agreement} {N : ℕ} {T : List ℕ} {role : ℕ} → Chosen agree N T anyRole role
+    → LeastRole agree N T role
 chosen-least (Chosen.named l _) = absurd (omega arith)
 chosen-least (Chosen.least L) = L
 
 -- and none is chosen where no role has a reading
-pub none-least : {N : ℕ} {T : List ℕ} → NoneChosen N T anyRole → NoRole Same N T
+pub none-least : {agree : Agreement} {N : ℕ} {T : List ℕ} → NoneChosen agree N T anyRole → NoRole agree N T
 none-least (NoneChosen.named l _) = absurd (omega arith)
 none-least (NoneChosen.least none) = none
 
 -- where no role has a reading, none is chosen, whatever may be asked
-pub none-chosen : {N : ℕ} {T : List ℕ} {asked : ℕ} → asked ≤ anyRole → NoRole Same N T → NoneChosen N T asked
+pub none-chosen : {agree : Agreement} {N : ℕ} {T : List ℕ} {asked : ℕ} → asked ≤ anyRole → NoRole agree N T
+    → NoneChosen agree N T asked
 none-chosen {asked = asked} known none = elim (ℕ-discrete asked anyRole) [
   | yes e ↦ rw e (NoneChosen.least none)
   | no other ↦ NoneChosen.named {role = asked} (omega (arith, other)) (none .none asked)
@@ -196,28 +197,34 @@ none-chosen {asked = asked} known none = elim (ℕ-discrete asked anyRole) [
 
 -- ---- what undo one answers
 
--- the rows of undo one but the last, 11
-abbrev but-eleven : ℕ → List ℕ → ℕ → List Room → List Rule
-but-eleven N T asked rooms = askedTooMuch anyRole asked ∷ common mostTriangles N T rooms
+-- the rows of undo one but those of its readings, 15 and 11
+abbrev mesh-rows : ℕ → List ℕ → ℕ → List Room → List Rule
+mesh-rows N T asked rooms = askedTooMuch anyRole asked ∷ common mostTriangles N T rooms
 
 -- a proper mesh within its limits passes them
-but-eleven-passed : (N : ℕ) (T : List ℕ) (asked : ℕ) (rooms : List Room) → Within mostTriangles N T → Enough rooms
-    → asked ≤ anyRole → Passed (but-eleven N T asked rooms)
+mesh-rows-passed : (N : ℕ) (T : List ℕ) (asked : ℕ) (rooms : List Room) → Within mostTriangles N T → Enough rooms
+    → asked ≤ anyRole → Passed (mesh-rows N T asked rooms)
 unfolding Passed
-but-eleven-passed N T asked rooms W enough l =
+mesh-rows-passed N T asked rooms W enough l =
     (λ place g. omega (arith, g .0), within-passed mostTriangles N T rooms W enough)
 
--- so it is refused with 11 or not at all
+-- Refused for its readings, it is refused with 15 at a triangle, or with 11 where it has no reading by the old rule.
+pub data ReadingRefused (N : ℕ) (T : List ℕ) (asked n p : ℕ) : Type 0 where
+  fifteen : n ≡ 15 → InsideOut N T asked p → ReadingRefused N T asked n p
+  eleven : n ≡ 11 → NoneChosen Same N T asked → ReadingRefused N T asked n p
+
+-- so it is refused with one of the two or not at all
 one-refused : (N : ℕ) (T : List ℕ) (asked : ℕ) (rooms : List Room) (n p : ℕ) → Within mostTriangles N T → Enough rooms
-    → asked ≤ anyRole → Refused (undoOneRules N T asked rooms) n p → (n ≡ 11) × NoneChosen N T asked
+    → asked ≤ anyRole → Refused (undoOneRules N T asked rooms) n p → ReadingRefused N T asked n p
 unfolding Refused
 one-refused N T asked rooms n p W enough l refused =
-    go (back-refuses (but-eleven N T asked rooms) (noReading N T asked ∷ []) n p
-    (but-eleven-passed N T asked rooms W enough l) refused)
+    go (back-refuses (mesh-rows N T asked rooms) (readingRules N T asked) n p
+    (mesh-rows-passed N T asked rooms W enough l) refused)
   where
-    go : Refused (noReading N T asked ∷ []) n p → (n ≡ 11) × NoneChosen N T asked
-    go (inl r) = (r .0, r .1 .here .0)
-    go (inr r) = absurd (r .1)
+    go : Refused (readingRules N T asked) n p → ReadingRefused N T asked n p
+    go (inl r) = fifteen (r .0) (r .1 .here)
+    go (inr (never, inl r)) = eleven (r .0) (none-old (W .proper) l (r .1 .here .0) never)
+    go (inr (never, inr r)) = absurd (r .1)
 
 -- where undo one refuses nothing, the mesh is proper and within its limits
 one-within : (N : ℕ) (T : List ℕ) (asked : ℕ) (rooms : List Room) → Passed (undoOneRules N T asked rooms)
@@ -225,50 +232,66 @@ one-within : (N : ℕ) (T : List ℕ) (asked : ℕ) (rooms : List Room) → Pass
 unfolding Passed
 one-within N T asked rooms passed =
     passed-within mostTriangles N T rooms
-    (passed-front (common mostTriangles N T rooms) (noReading N T asked ∷ []) (passed .1)) .0
+    (passed-front (common mostTriangles N T rooms) (readingRules N T asked) (passed .1)) .0
 
 -- a proper mesh within its limits is accepted with the chosen role and the returned reading, with room enough
 pub one-accepts : {N : ℕ} {T : List ℕ} {asked role : ℕ} {r : Reading} {out : Outputs} {works : List (List ℕ)}
-    → Within mostTriangles N T → Enough (lentToUndoOne N T out works) → Chosen N T asked role → Returned Same N T role r
+    → Within mostTriangles N T → Enough (lentToUndoOne N T out works) → Chosen Rotated N T asked role
+    → Returned Rotated N T role r
     → UndoesOne N T asked out works (acceptedReading role r) (writtenReading r out) (map zeros works)
 unfolding Passed
 one-accepts {N} {T} {asked} {role} {r} {out} {works} W enough c R =
-    UndoesOne.accepts role r (passed-both (but-eleven N T asked rooms) (noReading N T asked ∷ [])
-    (but-eleven-passed N T asked rooms W enough (chosen-asked c)) (λ place g. chosen-not-refused c (g .0), tt))
-    c R refl refl refl
+    UndoesOne.accepts role r (passed-both (mesh-rows N T asked rooms) (readingRules N T asked)
+    (mesh-rows-passed N T asked rooms W enough (chosen-asked c)) (chosen-passes c)) c R refl refl refl
   where
     rooms : List Room
     rooms = lentToUndoOne N T out works
 
 -- so where a role is chosen, there is an acceptance
 pub chosen-accepted : {N : ℕ} {T : List ℕ} {asked role : ℕ} {out : Outputs} {works : List (List ℕ)}
-    → Within mostTriangles N T → Enough (lentToUndoOne N T out works) → Chosen N T asked role
+    → Within mostTriangles N T → Enough (lentToUndoOne N T out works) → Chosen Rotated N T asked role
     → (r : Reading) × UndoesOne N T asked out works (acceptedReading role r) (writtenReading r out) (map zeros works)
 chosen-accepted {N} {T} {asked} {role} {out} {works} W enough c =
-    go (returned-exists N T (W .proper) same-lawful role (chosen-reading c))
+    go (returned-exists N T (W .proper) rotated-lawful role (chosen-reading c))
   where
-    go : (r : Reading) × Returned Same N T role r
-        → (r : Reading) × UndoesOne N T asked out works (acceptedReading role r) (writtenReading r out) (map zeros works)
+    go : (r : Reading) × Returned Rotated N T role r → (r : Reading)
+        × UndoesOne N T asked out works (acceptedReading role r) (writtenReading r out) (map zeros works)
     go (r, R) = (r, one-accepts W enough c R)
 
--- where none is chosen, it is refused with 11
-pub none-refused : {N : ℕ} {T : List ℕ} {asked : ℕ} {out : Outputs} {works : List (List ℕ)} → Within mostTriangles N T
-    → Enough (lentToUndoOne N T out works) → NoneChosen N T asked
-    → UndoesOne N T asked out works (oneRefusal 11 0) out (map zeros works)
-unfolding Refused
-none-refused {N} {T} {asked} {out} {works} W enough none =
-    UndoesOne.refuses 11 0 (refused-by-back (but-eleven N T asked rooms) (noReading N T asked ∷ []) 11 0
-    (but-eleven-passed N T asked rooms W enough (none-asked none)) (inl (refl, at-place-0 none))) refl refl refl
+-- what the rows of its readings refuse, it refuses
+pub readings-refused : {N : ℕ} {T : List ℕ} {asked : ℕ} {out : Outputs} {works : List (List ℕ)} (n p : ℕ)
+    → Within mostTriangles N T → Enough (lentToUndoOne N T out works) → asked ≤ anyRole
+    → Refused (readingRules N T asked) n p → UndoesOne N T asked out works (oneRefusal n p) out (map zeros works)
+readings-refused {N} {T} {asked} {out} {works} n p W enough l refused =
+    UndoesOne.refuses n p (refused-by-back (mesh-rows N T asked rooms) (readingRules N T asked) n p
+    (mesh-rows-passed N T asked rooms W enough l) refused) refl refl refl
   where
     rooms : List Room
     rooms = lentToUndoOne N T out works
+
+-- where none is chosen by the old rule, it is refused with 11
+pub none-refused : {N : ℕ} {T : List ℕ} {asked : ℕ} {out : Outputs} {works : List (List ℕ)} → Within mostTriangles N T
+    → Enough (lentToUndoOne N T out works) → NoneChosen Same N T asked
+    → UndoesOne N T asked out works (oneRefusal 11 0) out (map zeros works)
+none-refused W enough none = readings-refused 11 0 W enough (none-asked none) (none-refuses none)
+
+-- where one is chosen by the old rule alone, it is refused with 15
+pub inside-out-refused : {N : ℕ} {T : List ℕ} {asked role : ℕ} {out : Outputs} {works : List (List ℕ)}
+    → Within mostTriangles N T → Enough (lentToUndoOne N T out works) → NoneChosen Rotated N T asked
+    → Chosen Same N T asked role
+    → (place : ℕ) × UndoesOne N T asked out works (oneRefusal 15 place) out (map zeros works)
+inside-out-refused {N} {T} {asked} {out = out} {works} W enough none c = go (inside-out (W .proper) none c)
+  where
+    go : (k : ℕ) × LeastPlace (InsideOut N T asked) k
+        → (place : ℕ) × UndoesOne N T asked out works (oneRefusal 15 place) out (map zeros works)
+    go (k, least) = (k, readings-refused 15 k W enough (none-asked none) (inside-out-refuses least))
 
 -- What an acceptance by undo one says, of the reading as a caller finds it.
 pub record Accepted (N : ℕ) (T : List ℕ) (asked : ℕ) (out : Outputs) (answer : OneAnswer) (out′ : Outputs)
     : Type 0 where
   pub within : Within mostTriangles N T
-  pub chosen : Chosen N T asked (answer .role)
-  pub returned : Returned Same N T (answer .role) (foundReading N T answer out′)
+  pub chosen : Chosen Rotated N T asked (answer .role)
+  pub returned : Returned Rotated N T (answer .role) (foundReading N T answer out′)
   pub counted : answer .common ≡ acceptedMesh (answer .common .vertices) (foundMesh (answer .common) (out′ .mesh))
   pub wrote : out′ ≡ writtenReading (foundReading N T answer out′) out
 
@@ -302,39 +325,79 @@ one-accepted-found {N} {T} {asked} {out} {works = works} (UndoesOne.accepts role
     here = record {
       within = one-within N T asked (lentToUndoOne N T out works) passed;
       chosen = c;
-      returned = subst (λ (s : Reading). Returned Same N T role s) (sym found) R;
+      returned = subst (λ (s : Reading). Returned Rotated N T role s) (sym found) R;
       counted = ap (λ (s : Reading). acceptedMesh (r .vertices) (s .mesh)) (sym found);
       wrote = ap (λ (s : Reading). writtenReading s out) (sym found);
     }
 
--- Undo one chooses a role and accepts, or there is none to choose and it gives 11.
+-- Undo one chooses a role and accepts, or it has one by the old rule alone and gives 15, or it has none and gives 11.
 pub data Outcome (N : ℕ) (T : List ℕ) (asked : ℕ) (answer : OneAnswer) : Type 0 where
-  accepts : answer .common .refusal ≡ 0 → Chosen N T asked (answer .role) → Outcome N T asked answer
-  refuses : answer .common .refusal ≡ 11 → NoneChosen N T asked → Outcome N T asked answer
+  accepts : answer .common .refusal ≡ 0 → Chosen Rotated N T asked (answer .role) → Outcome N T asked answer
+  turned : answer .common .refusal ≡ 15 → InsideOut N T asked (answer .common .place) → Outcome N T asked answer
+  refuses : answer .common .refusal ≡ 11 → NoneChosen Same N T asked → Outcome N T asked answer
 
 -- nothing else happens to a proper mesh within the limits, with room enough
 pub outcome : {N : ℕ} {T : List ℕ} {asked : ℕ} {out out′ : Outputs} {works works′ : List (List ℕ)} {answer : OneAnswer}
     → Within mostTriangles N T → Enough (lentToUndoOne N T out works) → asked ≤ anyRole
     → UndoesOne N T asked out works answer out′ works′ → Outcome N T asked answer
-outcome {N} {T} {asked} W enough l (UndoesOne.refuses n p R e _ _) =
-    let eleven : (n ≡ 11) × NoneChosen N T asked = one-refused N T asked _ n p W enough l R in
-    refuses (ap (λ (a : OneAnswer). a .common .refusal) e ∙ eleven .0) (eleven .1)
+outcome {N} {T} {asked} {answer = answer} W enough l (UndoesOne.refuses n p R e _ _) =
+    go (one-refused N T asked _ n p W enough l R)
+  where
+    number : answer .common .refusal ≡ n
+    number = ap (λ (a : OneAnswer). a .common .refusal) e
+
+    place : answer .common .place ≡ p
+    place = ap (λ (a : OneAnswer). a .common .place) e
+
+    go : ReadingRefused N T asked n p → Outcome N T asked answer
+    go (fifteen f o) = turned (number ∙ f) (subst (InsideOut N T asked) (sym place) o)
+    go (eleven f none) = refuses (number ∙ f) none
 outcome {N} {T} {asked} W enough l (UndoesOne.accepts role r _ c _ e _ _) =
     accepts (ap (λ (a : OneAnswer). a .common .refusal) e)
-    (subst (λ (ρ : ℕ). Chosen N T asked ρ) (ap (λ (a : OneAnswer). a .role) (sym e)) c)
+    (subst (λ (ρ : ℕ). Chosen Rotated N T asked ρ) (ap (λ (a : OneAnswer). a .role) (sym e)) c)
 
--- so it accepts exactly if so, where a choice says that it is so and the lack of one that it is not
-pub outcome-exactly : {so : Type 0} {N : ℕ} {T : List ℕ} {asked : ℕ} {answer : OneAnswer} → Outcome N T asked answer
-    → (Chosen N T asked (answer .role) → so) → (NoneChosen N T asked → so → ⊥) → Exactly so (answer .common .refusal)
-outcome-exactly (accepts e c) has lacks = record {
-  accepted = (λ _. has c, λ _. e);
-  refused = (λ f. absurd (omega arith), λ h. absurd (h (has c)));
-  either = inl e;
+-- What is said of a choice, by either rule: a choice says that it is so, the lack of one that it is not.
+pub record Says (N : ℕ) (T : List ℕ) (asked : ℕ) (said : Agreement → Type 0) : Type 1 where
+  pub chosen : {agree : Agreement} {role : ℕ} → Chosen agree N T asked role → said agree
+  pub none : {agree : Agreement} → NoneChosen agree N T asked → said agree → ⊥
+  pub byOld : said Rotated → said Same
+
+-- so it accepts exactly if it is so
+pub outcome-exactly : {said : Agreement → Type 0} {N : ℕ} {T : List ℕ} {asked : ℕ} {answer : OneAnswer}
+    → Outcome N T asked answer → Says N T asked said → Exactly (said Rotated) (said Same) (answer .common .refusal)
+outcome-exactly (accepts e c) S = record {
+  accepted = (λ _. S .chosen c, λ _. e);
+  insideOut = (λ f. absurd (omega arith), λ h. absurd (h .0 (S .chosen c)));
+  refused = (λ f. absurd (omega arith), λ h. absurd (h (S .byOld (S .chosen c))));
+  oneOfThem = inl e;
 }
-outcome-exactly (refuses e n) has lacks = record {
-  accepted = (λ f. absurd (omega arith), λ h. absurd (lacks n h));
-  refused = (λ _. lacks n, λ _. e);
-  either = inr e;
+outcome-exactly (turned e o) S = record {
+  accepted = (λ f. absurd (omega arith), λ h. absurd (S .none (o .noneByNew) h));
+  insideOut = (λ _. (S .none (o .noneByNew), S .chosen (o .byOld)), λ _. e);
+  refused = (λ f. absurd (omega arith), λ h. absurd (h (S .chosen (o .byOld))));
+  oneOfThem = inr (inl e);
+}
+outcome-exactly (refuses e n) S = record {
+  accepted = (λ f. absurd (omega arith), λ h. absurd (S .none n (S .byOld h)));
+  insideOut = (λ f. absurd (omega arith), λ h. absurd (S .none n (h .1)));
+  refused = (λ _. S .none n, λ _. e);
+  oneOfThem = inr (inr e);
+}
+
+-- the role named has a reading
+pub named-says : {N : ℕ} {T : List ℕ} {role : ℕ} → role ≤ 3 → Says N T role (λ agree. ReadingIn agree N T role)
+named-says l = record {
+  chosen = λ c. chosen-named l c .1;
+  none = none-named l;
+  byOld = readingIn-same rotated-implies;
+}
+
+-- some role has one
+pub any-says : {N : ℕ} {T : List ℕ} → Says N T anyRole (λ agree. (role : ℕ) × ReadingIn agree N T role)
+any-says = record {
+  chosen = λ c. (_, chosen-least c .has);
+  none = λ n R. none-least n .none (R .0) (R .1);
+  byOld = λ R. (R .0, readingIn-same rotated-implies (R .1));
 }
 
 -- ---- the levels of undo several
@@ -354,7 +417,7 @@ several-roles (undone r _ _ S) = ap suc (several-roles S)
 
 -- what every reading has k times less of, each level leaves k times less of
 several-scaled : (k : ℕ) (size : List ℕ → ℕ)
-    → ((N : ℕ) (T : List ℕ) (r : Reading) → Proper N T → IsReading Same N T r → size T ≡ k * size (r .mesh))
+    → ((N : ℕ) (T : List ℕ) (r : Reading) → Proper N T → IsReading Rotated N T r → size T ≡ k * size (r .mesh))
     → {asked N levels M : ℕ} {T roles C : List ℕ} → Proper N T → Several asked N T levels roles M C
     → size T ≡ k ^ levels * size C
 several-scaled k size scaled {T = T} P reached = sym (rw (pow-zero k) (one-mul (size T)))
@@ -371,11 +434,11 @@ several-quarters = several-scaled 4 triangles (λ _ _ _ _ R. quarter R)
 -- and half of the boundary edges
 pub several-halves : {asked N levels M : ℕ} {T roles C : List ℕ} → Proper N T → Several asked N T levels roles M C
     → boundaryEdges T ≡ 2 ^ levels * boundaryEdges C
-several-halves = several-scaled 2 boundaryEdges (λ _ _ _ P R. reading-boundary P R)
+several-halves = several-scaled 2 boundaryEdges (λ _ _ _ P R. reading-boundary P (reading-same rotated-implies R))
 
 -- where fewer are undone than asked, nothing is left to undo
 pub several-stops : {asked N levels M : ℕ} {T roles C : List ℕ} → Several asked N T levels roles M C → levels < asked
-    → NoRole Same M C
+    → NoRole Rotated M C
 several-stops reached l = absurd (omega arith)
 several-stops (stopped none) l = none
 several-stops (undone r _ _ S) l = several-stops S (omega arith)

@@ -6,27 +6,31 @@ use native.Mathlib.Nat.{add-comm, mul-le-mul, pow-le-pow-right}
 use native.Mathlib.Omega.{arith}
 use native.Mathlib.Decide.{decLt}
 use mathlib.Core.Path.{_≡_, refl, sym, ap, _∙_, subst, subst₂}
+use mathlib.Core.Logic.{_⊎_, inl, inr}
 use mathlib.Core.List.{List, [], map, _++_}
 use lib.ListN.{take, replicate, length-replicate, replicate-append-replicate}
 use lib.Seq.{take-at}
-use Rattle.theory.specs.Limits.{mostTriangles, mostSplitTriangles, mostLevels}
-use Rattle.theory.specs.Mesh.{triangles, Same, Proper}
+use Rattle.theory.specs.Limits.{mostTriangles, mostSplitTriangles, anyRole, mostLevels}
+use Rattle.theory.specs.Mesh.{triangles, Same, Rotated, Proper}
 use Rattle.theory.specs.Splitting.{edges, split}
-use Rattle.theory.specs.Reading.{Agreement, Reading, Returned}
+use Rattle.theory.specs.Reading.{Agreement, Reading, ReadingIn, Returned}
 use Rattle.theory.specs.Choice.{LeastRole, NoRole, Several, reached, stopped, undone, sevenPlaces}
-use Rattle.theory.specs.Calls.{Answer, SeveralAnswer, acceptedMesh, acceptedLevels, written, zeros}
-use Rattle.theory.specs.Calls.{lentToSplit, Splits, lentToUndoSeveral, UndoesSeveral}
-use Rattle.theory.specs.Demands.{Enough, Within, SameApart, foundMesh, foundRoles, SplitTimes, never, onceMore}
+use Rattle.theory.specs.Calls.{Answer, OneAnswer, SeveralAnswer, Outputs, acceptedMesh, acceptedLevels}
+use Rattle.theory.specs.Calls.{written, zeros, lentToSplit, Splits, lentToUndoOne, UndoesOne}
+use Rattle.theory.specs.Calls.{lentToUndoSeveral, UndoesSeveral}
+use Rattle.theory.specs.Demands.{Enough, Within, SameApart, Exactly, foundMesh, foundRoles}
+use Rattle.theory.specs.Demands.{SplitTimes, never, onceMore}
 use Rattle.theory.proofs.Finite.{match-size}
 use Rattle.theory.proofs.Refusals.{passed-not-refused, fits-none-short}
-use Rattle.theory.proofs.Lawful.{same-lawful, matched-identity, matched-composed, carried}
+use Rattle.theory.proofs.Lawful.{matched-identity, matched-composed, carried}
+use Rattle.theory.proofs.Rotation.{rotated-lawful}
 use Rattle.theory.proofs.SplitProper.{itself, split-returned}
 use Rattle.theory.proofs.Determined.{returned-in, quarter, undoes-several-determined}
 use Rattle.theory.proofs.Results.{reading-within, smaller-within, split-accepts, SplitAccepted}
 use Rattle.theory.proofs.Results.{several-at-most, several-quarters, several-stops, several-within}
 use Rattle.theory.proofs.Results.{split-accepted, several-passed, several-accepts}
 use Rattle.theory.proofs.Results.{SeveralAccepted, several-accepted-found}
-use Rattle.theory.proofs.Demands.{split-within}
+use Rattle.theory.proofs.Demands.{split-within, least-accepted-exactly}
 
 -- ---- a mesh split so many times, without the calls
 
@@ -84,8 +88,8 @@ splittings-undone : {N times M : ℕ} {T S : List ℕ} → Splittings N T times 
 splittings-undone untouched = reached
 splittings-undone (another {times} {M} {S} before W) = undone (itself M S) (role-zero R) R (splittings-undone before)
   where
-    R : Returned Same (M + edges S) (split M S) 0 (itself M S)
-    R = split-returned M S (W .proper) same-lawful (W .some)
+    R : Returned Rotated (M + edges S) (split M S) 0 (itself M S)
+    R = split-returned M S (W .proper) rotated-lawful (W .some)
 
 -- ---- seven levels are all
 
@@ -113,7 +117,7 @@ one-left (suc H) e few some four = omega arith
 
 -- so where seven are asked, nothing is left to undo
 several-seven : {N levels M : ℕ} {T roles C : List ℕ} → Within mostTriangles N T
-    → Several mostLevels N T levels roles M C → NoRole Same M C
+    → Several mostLevels N T levels roles M C → NoRole Rotated M C
 several-seven {levels = levels} {M} {T} {roles} {C} W S = go (decLt levels mostLevels)
   where
     seven : (levels < mostLevels → ⊥) → triangles T ≡ 4 ^ mostLevels * triangles C
@@ -121,7 +125,7 @@ several-seven {levels = levels} {M} {T} {roles} {C} W S = go (decLt levels mostL
         let all : levels ≡ mostLevels = omega (arith, several-at-most S, h) in
         several-quarters (W .proper) S ∙ ap (λ (n : ℕ). 4 ^ n * triangles C) all
 
-    go : Dec (levels < mostLevels) → NoRole Same M C
+    go : Dec (levels < mostLevels) → NoRole Rotated M C
     go (yes l) = several-stops S l
     go (no h) = record {
       none = λ role R. one-left _ (seven h) (W .fewTriangles) (several-within W S .some) (quarter (R .is));
@@ -204,8 +208,9 @@ asked-none-unchanged W enough U = split-times-comes-back W never enough U
 -- the mesh that is left, split as many times, is the input apart from numbering and order
 several-splits : {asked N levels M M′ : ℕ} {T roles C S : List ℕ} → Proper N T → Several asked N T levels roles M C
     → Splittings M C levels M′ S → SameApart N T M′ S
-several-splits {N = N} {T = T} P reached untouched = (_, _, matched-identity same-lawful N T (P .otherwise .below))
-several-splits {N = N} {T = T} P (stopped _) untouched = (_, _, matched-identity same-lawful N T (P .otherwise .below))
+several-splits {N = N} {T = T} P reached untouched = (_, _, matched-identity rotated-lawful N T (P .otherwise .below))
+several-splits {N = N} {T = T} P (stopped _) untouched =
+    (_, _, matched-identity rotated-lawful N T (P .otherwise .below))
 several-splits {N = N} {T = T} P (undone r _ R S) (another {M = L} {S = D} before W) =
     go (several-splits (R .is .proper) S before)
   where
@@ -213,8 +218,8 @@ several-splits {N = N} {T = T} P (undone r _ R S) (another {M = L} {S = D} befor
     go (f, g, G) = (
       _,
       _,
-      matched-composed same-lawful (P .otherwise .below) (R .is .matched)
-          (carried same-lawful (R .is .proper .otherwise) (W .proper .otherwise) G .matched),
+      matched-composed rotated-lawful (P .otherwise .below) (R .is .matched)
+          (carried rotated-lawful (R .is .proper .otherwise) (W .proper .otherwise) G .matched),
     )
 
 -- what is the same as a mesh within the limits, apart from numbering and order, is within them, if proper
@@ -287,13 +292,32 @@ module _ {N : ℕ} {T : List ℕ} {asked : ℕ} {out out′ : List ℕ} {works w
   levels-at-most-asked = several-at-most (acceptance .undone)
 
   -- where fewer are undone than asked, what is left has no reading in any role
-  pub stops-at-no-reading : answer .levels < asked → NoRole Same (answer .common .vertices) left
+  pub stops-at-no-reading : answer .levels < asked → NoRole Rotated (answer .common .vertices) left
   stops-at-no-reading = several-stops (acceptance .undone)
+
+  -- so undo one, asked 4, gives 15 or 11 there, with room enough
+  pub stops-at-either : {o o′ : Outputs} {ws ws′ : List (List ℕ)} {one : OneAnswer} → answer .levels < asked
+      → Enough (lentToUndoOne (answer .common .vertices) left o ws)
+      → UndoesOne (answer .common .vertices) left anyRole o ws one o′ ws′
+      → (one .common .refusal ≡ 15) ⊎ (one .common .refusal ≡ 11)
+  stops-at-either {one = one} l enough U′ = go (E .oneOfThem)
+    where
+      E : Exactly ((role : ℕ) × ReadingIn Rotated (answer .common .vertices) left role)
+          ((role : ℕ) × ReadingIn Same (answer .common .vertices) left role) (one .common .refusal)
+      E = least-accepted-exactly (several-within (acceptance .within) (acceptance .undone)) enough U′
+
+      refuted : (role : ℕ) × ReadingIn Rotated (answer .common .vertices) left role → ⊥
+      refuted (role, R) = stops-at-no-reading l .none role R
+
+      go : (one .common .refusal ≡ 0) ⊎ ((one .common .refusal ≡ 15) ⊎ (one .common .refusal ≡ 11))
+          → (one .common .refusal ≡ 15) ⊎ (one .common .refusal ≡ 11)
+      go (inl e) = absurd (refuted (E .accepted .0 e))
+      go (inr either) = either
 
 -- asked seven, nothing is left to undo
 pub seven-undo-all : {N : ℕ} {T out out′ : List ℕ} {works works′ : List (List ℕ)} {answer : SeveralAnswer}
     → UndoesSeveral N T mostLevels out works answer out′ works′ → answer .common .refusal ≡ 0
-    → NoRole Same (answer .common .vertices) (foundMesh (answer .common) out′)
+    → NoRole Rotated (answer .common .vertices) (foundMesh (answer .common) out′)
 seven-undo-all U none = several-seven (several-accepted-found U none .within) (several-accepted-found U none .undone)
 
 -- a proper mesh within the limits is never refused, with room enough and at most seven levels asked

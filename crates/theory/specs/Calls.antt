@@ -6,11 +6,11 @@ use mathlib.Core.Path.{_≡_}
 use mathlib.Core.List.{List, [], _∷_, _++_, map}
 use lib.ListN.{length, drop, replicate}
 use Rattle.theory.specs.Limits.{mostTriangles, mostSplitTriangles, anyRole, mostLevels}
-use Rattle.theory.specs.Mesh.{triangles, Same}
+use Rattle.theory.specs.Mesh.{triangles, Rotated}
 use Rattle.theory.specs.Splitting.{edges, boundaryEdges, split}
 use Rattle.theory.specs.Reading.{Reading, Returned}
 use Rattle.theory.specs.Choice.{Chosen, Several, sevenPlaces}
-use Rattle.theory.specs.Refusals.{Rule, Room, askedTooMuch, tooShort, sizeRules, meshRules, noReading}
+use Rattle.theory.specs.Refusals.{Rule, Room, askedTooMuch, tooShort, sizeRules, meshRules, readingRules}
 use Rattle.theory.specs.Refusals.{Passed, Refused}
 
 -- ---- answers
@@ -128,11 +128,11 @@ undoNumberRules most N entries asked = askedTooMuch most asked ∷ sizeRules mos
 abbrev pub undoOneSizeRules : ℕ → ℕ → ℕ → List Room → List Rule
 undoOneSizeRules N entries asked rooms = undoNumberRules anyRole N entries asked ++ (tooShort rooms ∷ [])
 
--- 6 to 11.
+-- 6 to 10, and 15 or 11.
 abbrev pub undoOneMeshRules : ℕ → List ℕ → ℕ → List Rule
-undoOneMeshRules N T asked = meshRules N T ++ (noReading N T asked ∷ [])
+undoOneMeshRules N T asked = meshRules N T ++ readingRules N T asked
 
--- The rows of undo one, 1 to 11.
+-- The rows of undo one, 1 to 11 and 15.
 abbrev pub undoOneRules : ℕ → List ℕ → ℕ → List Room → List Rule
 undoOneRules N T asked rooms = undoOneSizeRules N (length T) asked rooms ++ undoOneMeshRules N T asked
 
@@ -169,7 +169,7 @@ pub data UndoesOne (N : ℕ) (T : List ℕ) (asked : ℕ) (out : Outputs) (works
       → UndoesOne N T asked out works answer out′ works′
   accepts : (role : ℕ) (r : Reading)
       → Passed (undoOneRules N T asked (lentToUndoOne N T out works))
-      → Chosen N T asked role → Returned Same N T role r
+      → Chosen Rotated N T asked role → Returned Rotated N T role r
       → answer ≡ acceptedReading role r → out′ ≡ writtenReading r out → works′ ≡ map zeros works
       → UndoesOne N T asked out works answer out′ works′
 

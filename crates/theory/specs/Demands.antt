@@ -7,7 +7,7 @@ use mathlib.Core.Logic.{_⊎_, _↔_}
 use mathlib.Core.List.{List, map}
 use lib.ListN.{take}
 use Rattle.theory.specs.Limits.{mostVertices}
-use Rattle.theory.specs.Mesh.{triangles, Same, Proper}
+use Rattle.theory.specs.Mesh.{triangles, Rotated, Proper}
 use Rattle.theory.specs.Splitting.{edges, split}
 use Rattle.theory.specs.Reading.{Matched, Reading}
 use Rattle.theory.specs.Refusals.{Room, Short}
@@ -26,9 +26,10 @@ pub record Within (most N : ℕ) (T : List ℕ) : Type 0 where
   pub fewTriangles : triangles T ≤ most
   pub fewVertices : N ≤ mostVertices
 
--- "the same apart from numbering and order": some match takes one mesh onto the other.
+-- "the same apart from numbering and order", and #103: "up to rotation of corners": some match takes one mesh onto the
+-- other.
 abbrev pub SameApart : ℕ → List ℕ → ℕ → List ℕ → Type 0
-SameApart N T M S = (f : List ℕ) × (g : List ℕ) × Matched Same f g N T M S
+SameApart N T M S = (f : List ℕ) × (g : List ℕ) × Matched Rotated f g N T M S
 
 -- The mesh that a call wrote, as a caller finds it: "the entries it needs", three for each triangle of the answer.
 abbrev pub foundMesh : Answer → List ℕ → List ℕ
@@ -69,13 +70,15 @@ pub record SplitsBack (N : ℕ) (T : List ℕ) (r : Reading) (out : List ℕ) (w
   pub clears : works′ ≡ map zeros works
   pub sameVertices : answer .vertices ≡ N
   pub sameTriangles : answer .triangles ≡ triangles T
-  pub input : Matched Same (r .vertexMap) (r .triangleMap) N T (answer .vertices) (foundMesh answer out′)
+  pub input : Matched Rotated (r .vertexMap) (r .triangleMap) N T (answer .vertices) (foundMesh answer out′)
 
--- "accepted exactly if": a call with this refusal number accepts if so, gives 11 if not, and nothing else.
-pub record Exactly (so : Type 0) (number : ℕ) : Type 0 where
+-- "accepted exactly if": a call with this refusal number accepts if so; if not, it gives 15 if it is so by the old
+-- rule, and else 11; and nothing else.
+pub record Exactly (so byOld : Type 0) (number : ℕ) : Type 0 where
   pub accepted : number ≡ 0 ↔ so
-  pub refused : number ≡ 11 ↔ (so → ⊥)
-  pub either : (number ≡ 0) ⊎ (number ≡ 11)
+  pub insideOut : number ≡ 15 ↔ ((so → ⊥) × byOld)
+  pub refused : number ≡ 11 ↔ (byOld → ⊥)
+  pub oneOfThem : (number ≡ 0) ⊎ ((number ≡ 15) ⊎ (number ≡ 11))
 
 -- The roles that undo several took, as a caller finds them: one for each level of the answer.
 abbrev pub foundRoles : SeveralAnswer → List ℕ

@@ -1,7 +1,7 @@
--- Document 01, "Meshes": triangles and their vertices, edges, sameness, connectedness, proper.
+-- Document 01, "Meshes": triangles and their vertices, edges, sameness, connectedness, proper. Rotation is #103's.
 -- A mesh is a vertex count N and an index list T. Every definition says that the corners it speaks of are inside the
 -- list, so that the entry which stands for "outside" (0) never makes anything true.
-use Prim.Native.Nat.{ℕ, _*_, _/_, _<_}
+use Prim.Native.Nat.{ℕ, _+_, _*_, _/_, _%_, _<_}
 use mathlib.Core.Path.{_≡_}
 use mathlib.Core.Logic.{_≢_, _⊎_}
 use mathlib.Core.List.{List}
@@ -65,6 +65,15 @@ pub data EdgeKind (T : List ℕ) (u v : ℕ) : Type 0 where
 pub record Same (T : List ℕ) (k : ℕ) (S : List ℕ) (l : ℕ) : Type 0 where
   pub there : (v : ℕ) → On T k v → On S l v
   pub back : (v : ℕ) → On S l v → On T k v
+
+-- #103: "agree up to rotation of corners": triangle k of T is triangle l of S with its corners rotated, so that they
+-- are the same three in the same turning.
+pub record Rotated (T : List ℕ) (k : ℕ) (S : List ℕ) (l : ℕ) : Type 0 where
+  pub inside : 3 * k + 2 < length T
+  pub otherInside : 3 * l + 2 < length S
+  pub by : ℕ
+  pub few : by < 3
+  pub corners : (i : ℕ) → i < 3 → at T (3 * k + i) ≡ at S (3 * l + (i + by) % 3)
 
 -- Two triangles share an edge: some edge u-v is an edge of both.
 pub record Share (T : List ℕ) (k l : ℕ) : Type 0 where

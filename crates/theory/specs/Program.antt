@@ -4,7 +4,7 @@ use mathlib.Core.Path.{_≡_}
 use mathlib.Core.List.{List, [], _∷_, _++_}
 use lib.ListN.{length}
 use Rattle.theory.specs.Limits.{programTriangles, programVertices}
-use Rattle.theory.specs.Mesh.{triangles, Same}
+use Rattle.theory.specs.Mesh.{triangles, Rotated}
 use Rattle.theory.specs.Reading.{Reading, Returned}
 use Rattle.theory.specs.Choice.{Chosen}
 use Rattle.theory.specs.Refusals.{Rule, Room, inputTooLong, Passed, Refused}
@@ -36,7 +36,8 @@ pub data PrintsMesh (N : ℕ) (T : List ℕ) (asked : ℕ) (text : List ℕ) : T
   refuses : (number place : ℕ) → Refused (undoOneRules N T asked (programRooms N (triangles T))) number place
       → text ≡ answerLine number 0 place → PrintsMesh N T asked text
   accepts : (role : ℕ) (r : Reading) → Passed (undoOneRules N T asked (programRooms N (triangles T)))
-      → Chosen N T asked role → Returned Same N T role r → text ≡ readingText role r → PrintsMesh N T asked text
+      → Chosen Rotated N T asked role → Returned Rotated N T role r → text ≡ readingText role r
+      → PrintsMesh N T asked text
 
 -- "the program gives 13 before anything else", then what reading gives: "(more triangles are refused 5 by reading)".
 abbrev pub inputRules : List ℕ → List Rule

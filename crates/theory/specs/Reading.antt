@@ -1,6 +1,6 @@
 -- Document 01, "A reading": what it is that an undo looks for. A reading is any coarse mesh that fits; how one is
--- found is nowhere said. What is asked of matched triangles is a parameter, `agree`; the calls take "the same three
--- vertices" (`Same`).
+-- found is nowhere said. What is asked of matched triangles is a parameter, `agree`: "up to rotation of corners"
+-- (`Rotated`), the rule since #103, or "the same three vertices" (`Same`), the old rule, of which refusal 15 speaks.
 use Prim.Native.Nat.{ℕ, suc, _+_, _*_, _/_, _%_, _≤_, _<_}
 use mathlib.Core.Path.{_≡_}
 use mathlib.Core.Logic.{_≢_, _⊎_}
@@ -39,7 +39,7 @@ pub record Reading : Type 0 where
 
 -- "A reading of a proper mesh is a proper coarse triangle mesh with a one-to-one match of the input's vertices onto
 -- those of its splitting, and of triangles onto triangles, where matched triangles have the same three vertices under
--- the vertex match."
+-- the vertex match." #103: "matched triangles in a reading must agree up to rotation of corners."
 pub record IsReading (agree : Agreement) (N : ℕ) (T : List ℕ) (r : Reading) : Type 0 where
   pub proper : Proper (r .vertices) (r .mesh)
   pub matched : Matched agree (r .vertexMap) (r .triangleMap) N T
@@ -91,6 +91,11 @@ pub record ReadingIn (agree : Agreement) (N : ℕ) (T : List ℕ) (role : ℕ) :
   pub reading : Reading
   pub is : IsReading agree N T reading
   pub inRole : RoleOf T reading 0 role
+
+-- Triangle k of the input "disagrees with the splitting", under the maps.
+pub record Disagrees (agree : Agreement) (T : List ℕ) (r : Reading) (k : ℕ) : Type 0 where
+  pub inside : k < triangles T
+  pub differs : agree (renamed (r .vertexMap) T) k (split (r .vertices) (r .mesh)) (at (r .triangleMap) k) → ⊥
 
 -- The vertex w across the edge u-v from triangle k: another triangle has the corners u, v and w.
 pub record Across (T : List ℕ) (k u v w : ℕ) : Type 0 where

@@ -1,11 +1,12 @@
--- Document 01, "Refusals by number": the table, row by row, and which row a call gives.
+-- Document 01, "Refusals by number": the table, row by row, and which row a call gives. 15 is #103's.
 use Prim.Native.Nat.{ℕ, _/_, _%_, _≤_, _<_}
 use mathlib.Core.Path.{_≡_}
 use mathlib.Core.Logic.{_≢_, _⊎_}
 use mathlib.Core.List.{List, [], _∷_}
 use Rattle.theory.specs.Limits.{mostVertices, mostBytes}
-use Rattle.theory.specs.Mesh.{triangles, On, Same, Reach}
-use Rattle.theory.specs.Choice.{NoneChosen}
+use Rattle.theory.specs.Mesh.{triangles, On, Same, Rotated, Reach}
+use Rattle.theory.specs.Reading.{Reading, Disagrees, Returned}
+use Rattle.theory.specs.Choice.{Chosen, NoneChosen}
 
 -- A row of the table: its number, and at which places it is given.
 pub record Rule : Type 1 where
@@ -102,7 +103,21 @@ notConnected T = record { number = 10; given = NotConnected T }
 
 -- 11: "no reading in the role asked (asked 4: in any)".
 abbrev pub noReading : ℕ → List ℕ → ℕ → Rule
-noReading N T asked = record { number = 11; given = noPlace (NoneChosen N T asked) }
+noReading N T asked = record { number = 11; given = noPlace (NoneChosen Rotated N T asked) }
+
+-- #103: "a role asked has a reading by the old rule but none asked has one by the new", and triangle k "disagrees with
+-- the splitting of the mesh the old rule returns in the least such role".
+pub record InsideOut (N : ℕ) (T : List ℕ) (asked k : ℕ) : Type 0 where
+  pub noneByNew : NoneChosen Rotated N T asked
+  pub role : ℕ
+  pub byOld : Chosen Same N T asked role
+  pub reading : Reading
+  pub returned : Returned Same N T role reading
+  pub disagrees : Disagrees Rotated T reading k
+
+-- 15, at the "least triangle that disagrees".
+abbrev pub insideOut : ℕ → List ℕ → ℕ → Rule
+insideOut N T asked = record { number = 15; given = InsideOut N T asked }
 
 -- 12, "a frame not as required", is a row of `Frames`, where lines are.
 
@@ -117,6 +132,10 @@ sizeRules most N entries = notThrees entries ∷ noTriangle (entries / 3) ∷ to
 -- The rows that judge the mesh itself, 6 to 10, in their order.
 abbrev pub meshRules : ℕ → List ℕ → List Rule
 meshRules N T = cornerNotBelow N T ∷ equalCorners T ∷ sameAsEarlier T ∷ inNoTriangle N T ∷ notConnected T ∷ []
+
+-- The rows that judge its readings: "15, in place of 11", and so before it.
+abbrev pub readingRules : ℕ → List ℕ → ℕ → List Rule
+readingRules N T asked = insideOut N T asked ∷ noReading N T asked ∷ []
 
 -- ---- which row is given
 

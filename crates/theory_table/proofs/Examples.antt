@@ -1,8 +1,8 @@
 -- What the table does not say: a reading must match triangle by triangle, so the sample's reading with two entries of
--- the vertex map exchanged is none, in any role, though all counts are right.
+-- the vertex map exchanged is none, in any role and by the old rule too, though all counts are right.
 use mathlib.Core.List.{[], _∷_}
-use Rattle.theory.specs.Mesh.{Same}
-use Rattle.theory.specs.Reading.{Reading, IsReading}
+use Rattle.theory.specs.Reading.{Agreement, Reading, IsReading}
+use Rattle.theory.proofs.Agreement.{Implies, reading-same}
 use Rattle.theory.proofs.Decide.{sameTest}
 use Rattle.theory.proofs.ReadingTests.{same-decided, isReadingTest, isReadingTest-complete}
 use Rattle.theory_table.specs.Table.{sample, sampleShown}
@@ -16,7 +16,7 @@ exchanged = record {
   triangleMap = sampleShown .triangleMap;
 }
 
--- is no reading
-pub sample-exchanged : IsReading Same 6 sample exchanged → ⊥
+-- is no reading, whatever is asked of matched triangles beside the same three vertices
+pub sample-exchanged : {agree : Agreement} → Implies agree → IsReading agree 6 sample exchanged → ⊥
 unfolding isReadingTest sameTest
-sample-exchanged R = isReadingTest-complete same-decided 6 sample exchanged R
+sample-exchanged I R = isReadingTest-complete same-decided 6 sample exchanged (reading-same I R)

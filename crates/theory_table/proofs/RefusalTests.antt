@@ -1,5 +1,6 @@
--- Document 01's table of refusals as tests that compute: the rows 1 to 10, where room enough is lent, and whether a
--- list of rows is passed or refuses with a number at a place. `rest` are rows after the tested ones.
+-- Document 01's table of refusals as tests that compute: the rows 1 to 10, where room enough is lent, the places of 15
+-- in a reading, and whether a list of rows is passed or refuses with a number at a place. `rest` are rows after the
+-- tested ones.
 use Prim.Native.Nat.{ℕ, _+_, _/_, _%_, _<_}
 use native.Mathlib.Omega.{arith}
 use mathlib.Core.Path.{_≡_, refl, sym, _∙_}
@@ -10,7 +11,10 @@ use mathlib.Core.List.{Memᴰ·cast as member-cast}
 use lib.Dec.{T as So, T-not, not-T, eqb, leb, ltb, eqb→eq, leb→le, ltb→lt, lt→ltb, le→leb}
 use lib.ListN.{length}
 use Rattle.theory.specs.Limits.{mostVertices}
-use Rattle.theory.specs.Mesh.{at, triangles, On}
+use Rattle.theory.specs.Mesh.{at, triangles, On, Rotated}
+use Rattle.theory.specs.Counting.{count, firstFrom}
+use Rattle.theory.specs.Splitting.{sameEdge, firstOn, isFirst, edgeNo, four, fours, split}
+use Rattle.theory.specs.Reading.{renamed, Reading, Disagrees}
 use Rattle.theory.specs.Refusals.{Rule, Room, noPlace, askedTooMuch, notThrees, noTriangle, tooLarge, tooShort}
 use Rattle.theory.specs.Refusals.{CornerNotBelow, cornerNotBelow, EqualCorners, equalCorners, SameAsEarlier}
 use Rattle.theory.specs.Refusals.{sameAsEarlier, InNoTriangle, inNoTriangle, notConnected, sizeRules, meshRules}
@@ -40,6 +44,7 @@ use Rattle.theory.proofs.Tests.{
 }
 use Rattle.theory.proofs.Decide.{corners, on-member, member-on, on-le}
 use Rattle.theory.proofs.Decide.{sameTest, sameTest-sound, sameTest-complete}
+use Rattle.theory.proofs.Decide.{rotatedTest, rotatedTest-sound, rotatedTest-complete}
 use Rattle.theory.proofs.Decide.{reachTest, reachTest-sound, reachTest-complete}
 
 -- ---- rows as tests
@@ -115,7 +120,7 @@ unfolding freeTest
 firstTest check number place = eqb number (check .number) && (check .test place && freeTest check place)
 
 -- then the row is given with the number, at its least place
-firstTest-sound : {check : Check} {rule : Rule} {number place : ℕ} → Decides check rule
+pub firstTest-sound : {check : Check} {rule : Rule} {number place : ℕ} → Decides check rule
     → So (firstTest check number place) → (number ≡ rule .number) × LeastPlace (rule .given) place
 unfolding firstTest
 firstTest-sound {check} {rule} {number} {place} D t =
@@ -336,30 +341,58 @@ unused-decides N T = record {
     somewhere : (v : ℕ) → InNoTriangle N T v → (c : ℕ) × (c < length T) × (at T c ≡ v) → ⊥
     somewhere v g (c, l, e) = g .nowhere (c / 3) (record { corner = c; inside = l; triangle = refl; holds = e })
 
+-- a row of the triangles at which a test does not pass
+unfoldable pub failingCheck : ℕ → List ℕ → (ℕ → Bool) → Check
+failingCheck number T test = record {
+  number = number;
+  bound = triangles T;
+  test = λ k. ltb k (triangles T) && not (test k);
+}
+
+failing-decides : {so given : ℕ → Type 0} (number : ℕ) (T : List ℕ) (test : ℕ → Bool)
+    → ((k : ℕ) → So (test k) → so k) → ((k : ℕ) → so k → So (test k))
+    → ((k : ℕ) → k < triangles T → (so k → ⊥) → given k) → ((k : ℕ) → given k → (k < triangles T) × (so k → ⊥))
+    → Decides (failingCheck number T test) (record { number = number; given = given })
+unfolding failingCheck
+failing-decides number T test sound complete made parts = record {
+  same = refl;
+  sound = λ k t.
+      let both = and-sound (ltb k (triangles T)) (not (test k)) t in
+      made k (ltb→lt k (triangles T) (both .0)) (λ h. T-not (test k) (both .1) (complete k h));
+  complete = λ k g.
+      and-complete (ltb k (triangles T)) (not (test k)) (lt→ltb k (triangles T) (parts k g .0))
+      (not-T (test k) (λ t. parts k g .1 (sound k t)));
+  within = λ k g. parts k g .0;
+}
+
 -- 10: k is a triangle, and not reached from triangle 0
 unfoldable pub apartCheck : List ℕ → Check
-unfolding reachTest
-apartCheck T = record {
-  number = 10;
-  bound = triangles T;
-  test = λ k. ltb k (triangles T) && not (reachTest T 0 k);
-}
+unfolding failingCheck reachTest
+apartCheck T = failingCheck 10 T (reachTest T 0)
 
 apart-decides : (T : List ℕ) → Decides (apartCheck T) (notConnected T)
 unfolding apartCheck
-apart-decides T = record {
-  same = refl;
-  sound = λ k t.
-      let both = and-sound (ltb k (triangles T)) (not (reachTest T 0 k)) t in
-      record {
-        inside = ltb→lt k (triangles T) (both .0);
-        apart = λ r. T-not (reachTest T 0 k) (both .1) (reachTest-complete T 0 k r);
-      };
-  complete = λ k g.
-      and-complete (ltb k (triangles T)) (not (reachTest T 0 k)) (lt→ltb k (triangles T) (g .inside))
-      (not-T (reachTest T 0 k) (λ t. g .apart (reachTest-sound T 0 k t)));
-  within = λ k g. g .inside;
-}
+apart-decides T =
+    failing-decides 10 T (reachTest T 0) (reachTest-sound T 0) (reachTest-complete T 0)
+    (λ k l a. record { inside = l; apart = a }) (λ k g. (g .inside, g .apart))
+
+-- whether triangle k of the input agrees with its own of the splitting
+unfoldable pub agreesTest : List ℕ → Reading → ℕ → Bool
+unfolding rotatedTest renamed split fours four edgeNo isFirst firstOn sameEdge count firstFrom
+agreesTest T r k =
+    rotatedTest (renamed (r .vertexMap) T) k (split (r .vertices) (r .mesh)) (at (r .triangleMap) k)
+
+-- 15, of the reading of which it speaks: k is a triangle, and disagrees
+unfoldable pub disagreesCheck : List ℕ → Reading → Check
+unfolding failingCheck agreesTest
+disagreesCheck T r = failingCheck 15 T (agreesTest T r)
+
+pub disagrees-decides : (T : List ℕ) (r : Reading)
+    → Decides (disagreesCheck T r) (record { number = 15; given = Disagrees Rotated T r })
+unfolding disagreesCheck agreesTest
+disagrees-decides T r =
+    failing-decides 15 T (agreesTest T r) (λ k. rotatedTest-sound _ k _ _) (λ k. rotatedTest-complete _ k _ _)
+    (λ k l d. record { inside = l; differs = d }) (λ k g. (g .inside, g .differs))
 
 -- ---- the rows 2 to 10 of a call
 

@@ -1,6 +1,6 @@
 -- The claim of the tables, `starred-holds` and `index-texts-hold`: every row's result is what the call's promise allows
--- on the row's input, and all that it allows. All rows are tested by one computation; that a row which passes its test is satisfied is proved
--- for all rows at once, and that the promise allows nothing else comes from `Determined`.
+-- on the row's input, and all that it allows. All rows are tested by one computation; that a row which passes its test
+-- is satisfied is proved for all rows at once, and that the promise allows nothing else comes from `Determined`.
 use mathlib.Core.Bool.{Bool, true, _&&_}
 use mathlib.Core.List.{List, [], _∷_, List·Memᴰ as Member, List·Memᴰ·head as first, List·Memᴰ·tail as later}
 use lib.Dec.{T as So}

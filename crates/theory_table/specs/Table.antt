@@ -148,12 +148,54 @@ finSplit =
     ∷ 5 ∷ 10 ∷ 11 ∷ 0 ∷ 5 ∷ 11 ∷ 1 ∷ 10 ∷ 5 ∷ 4 ∷ 11 ∷ 10
     ∷ []
 
+-- Two triangles on the edge 0-1, which runs the same way in both.
+abbrev pub alongside : List ℕ
+alongside = 0 ∷ 1 ∷ 2 ∷ 0 ∷ 1 ∷ 3 ∷ []
+
+-- What they become: the edges are 0-1 (vertex 4), 1-2 (5), 2-0 (6), 1-3 (7), 3-0 (8).
+abbrev pub alongsideSplit : List ℕ
+alongsideSplit =
+    4 ∷ 5 ∷ 6 ∷ 0 ∷ 4 ∷ 6 ∷ 1 ∷ 5 ∷ 4 ∷ 2 ∷ 6 ∷ 5
+    ∷ 4 ∷ 7 ∷ 8 ∷ 0 ∷ 4 ∷ 8 ∷ 1 ∷ 7 ∷ 4 ∷ 3 ∷ 8 ∷ 7
+    ∷ []
+
+-- So many numbers upward from i.
+unfoldable pub upward : ℕ → ℕ → List ℕ
+upward i zero = []
+upward i (suc n) = i ∷ upward (suc i) n
+
+-- A mesh that comes back from its splitting of so many vertices and triangles, with maps that send each to itself.
+unfoldable pub cameBack : List ℕ → ℕ → ℕ → Outputs
+unfolding upward
+cameBack T N F = record { mesh = T; vertexMap = upward 0 N; triangleMap = upward 0 F }
+
+-- The splitting of (0,1,2) with the triangle at vertex 0 turned.
+abbrev pub cornerTurned : List ℕ
+cornerTurned = 3 ∷ 4 ∷ 5 ∷ 0 ∷ 5 ∷ 3 ∷ 1 ∷ 4 ∷ 3 ∷ 2 ∷ 5 ∷ 4 ∷ []
+
+-- The same with the centre turned instead.
+abbrev pub centreTurned : List ℕ
+centreTurned = 3 ∷ 5 ∷ 4 ∷ 0 ∷ 3 ∷ 5 ∷ 1 ∷ 4 ∷ 3 ∷ 2 ∷ 5 ∷ 4 ∷ []
+
+-- And with all four turned.
+abbrev pub allTurned : List ℕ
+allTurned = 5 ∷ 4 ∷ 3 ∷ 0 ∷ 5 ∷ 3 ∷ 1 ∷ 3 ∷ 4 ∷ 2 ∷ 4 ∷ 5 ∷ []
+
+-- Its reading: the centre (5,4,3) has vertex 0 across 3-5, 2 across 5-4 and 1 across 4-3, and (0,2,1) splits to
+-- (3,4,5), (0,3,5), (2,4,3), (1,5,4).
+abbrev pub allTurnedShown : Outputs
+allTurnedShown = record {
+  mesh = 0 ∷ 2 ∷ 1 ∷ [];
+  vertexMap = 0 ∷ 1 ∷ 2 ∷ 5 ∷ 4 ∷ 3 ∷ [];
+  triangleMap = 0 ∷ 1 ∷ 3 ∷ 2 ∷ [];
+}
+
 -- ---- the table
 
 -- The starred meshes, each under document 01's words for it. How many edges and boundary edges there are is #102's, and
--- two rows are for these counts alone.
+-- two rows are for these counts alone; the last rows are #103's examples.
 unfoldable pub starred : List Row
-unfolding sampleBytes
+unfolding sampleBytes cameBack
 starred =
     -- "One triangle (0,1,2) splits to (3,4,5), (0,3,5), (1,4,3), (2,5,4)."
     splits 3 (0 ∷ 1 ∷ 2 ∷ []) (accepted 6 4 9 6) (3 ∷ 4 ∷ 5 ∷ 0 ∷ 3 ∷ 5 ∷ 1 ∷ 4 ∷ 3 ∷ 2 ∷ 5 ∷ 4 ∷ [])
@@ -185,6 +227,20 @@ starred =
     ++ eachRefuses 2 (0 ∷ 1 ∷ 2 ∷ []) 6 0
     -- "(0,0,1), V = 2: 7, place 0."
     ++ eachRefuses 2 (0 ∷ 0 ∷ 1 ∷ []) 7 0
+    -- #103: one corner triangle is turned, and shows; "undo several stops at either number"
+    ++ undoesOne 6 cornerTurned 0 (oneRefusal 15 1) nothingWritten
+    ∷ undoesOne 6 cornerTurned 1 (oneRefusal 11 0) nothingWritten
+    ∷ undoesOne 6 cornerTurned anyRole (oneRefusal 15 1) nothingWritten
+    ∷ undoesSeveral 6 cornerTurned mostLevels (severalAccepted 0 [] (accepted 6 4 9 6)) cornerTurned
+    -- "the centre is turned, and shows at its least corner triangle"
+    ∷ undoesOne 6 centreTurned 0 (oneRefusal 15 1) nothingWritten
+    -- all four are turned, and agree
+    ∷ undoesOne 6 allTurned 0 (oneAccepted 0 (accepted 3 1 3 3)) allTurnedShown
+    -- "An edge between two tiles may run the same way in both"
+    ∷ undoesOne 9 alongsideSplit 0 (oneAccepted 0 (accepted 4 2 5 4)) (cameBack alongside 9 8)
+    -- "the split fin of document 01 is still accepted"
+    ∷ undoesOne 12 finSplit 0 (oneAccepted 0 (accepted 5 3 7 6)) (cameBack fin 12 12)
+    ∷ []
 
 -- ---- index texts
 

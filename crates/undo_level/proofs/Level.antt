@@ -2,22 +2,24 @@
 -- level comes to: the coarser mesh has a quarter of the triangles and no more vertices.
 use Prim.Native.Nat.{ℕ, _*_, _%_, _≤_}
 use native.Mathlib.Omega.{arith}
-use mathlib.Core.Path.{_≡_, sym, subst}
-use mathlib.Core.Logic.{_≢_}
-use mathlib.Core.List.{List}
+use mathlib.Core.Path.{_≡_}
+use mathlib.Core.Logic.{_≢_, inl, inr}
+use mathlib.Core.List.{List, [], _∷_}
 use lib.ListN.{length, take, length-take}
-use Rattle.theory.specs.Mesh.{Same}
-use Rattle.theory.specs.Choice.{NoRole}
+use types.Run.{OneOf}
+use denote.Enum.Declared.{tagOf}
 use Rattle.theory.proofs.Finite.{match-size}
 use Rattle.theory.proofs.Determined.{quarter, role-within}
+use Rattle.theory.proofs.OldRule.{no-role-by-old}
 use Rattle.answers.specs.declared.taken.Taken.{Taken}
 use Rattle.answers.specs.declared.taken.Taken.the-variants as taken
+use Rattle.answers.proofs.taken.Taken as declared
 use Rattle.mesh_rings.specs.Making.{RingLent}
 use Rattle.undo_cover.specs.Cover.{CoverLent, CoverMade}
 use Rattle.undo_role.specs.Buffers.{Buffers, Rooms}
 use Rattle.undo_role.specs.Tried.{Undoable, RolesLent}
 use Rattle.undo_role.proofs.Rooms.{SameLengths, rooms-kept, cover-lent}
-use Rattle.undo_roles.specs.Least.{LeastTried, found as leastFound, none as leastNone}
+use Rattle.undo_roles.specs.Least.{LeastTried, found as leastFound, insideOut as leastInsideOut, none as leastNone}
 use Rattle.undo_roles.proofs.Uneven.{uneven-none}
 use Rattle.undo_level.specs.Level.{LevelLent, Coarser, LevelTried, none}
 
@@ -40,7 +42,7 @@ coarser-role C = role-within (C .returned .inRole)
 -- where the triangles are no multiple of four, no role has a reading
 pub level-uneven : {N F : ℕ} {T coarse ring : List ℕ} → Undoable N F T → F % 4 ≢ 0
     → LevelTried N F T coarse ring taken.Nothing
-level-uneven {F = F} U uneven = none (uneven-none F (U .whole) uneven)
+level-uneven {F = F} U uneven = none (no-role-by-old (uneven-none F (U .whole) uneven))
 
 module _ {N F : ℕ} {T coarse map faces : List ℕ} where
   -- where a reading is taken, there is a coarser mesh
@@ -48,15 +50,13 @@ module _ {N F : ℕ} {T coarse map faces : List ℕ} where
       → Coarser N F T coarse role M n
   least-found (leastFound l R) = record { least = l; map = map; faces = faces; returned = R }
 
-  -- where nothing is, no role has a reading
-  nothing-least : LeastTried N F T coarse map faces taken.Nothing → NoRole Same N T
-  nothing-least (leastNone refuted) = refuted
-
-  -- so that nothing is taken of the level
-  pub least-none : {ring : List ℕ} {answer : Taken} → answer ≡ taken.Nothing
-      → LeastTried N F T coarse map faces answer → LevelTried N F T coarse ring answer
-  least-none e t =
-      subst (LevelTried N F T coarse _) (sym e) (none (nothing-least (subst (LeastTried N F T coarse map faces) e t)))
+  -- where none is, no role has a reading, so that nothing is taken of the level
+  pub least-none : {ring : List ℕ} {answer : Taken} → OneOf (1 ∷ 2 ∷ []) (tagOf declared.the-type answer)
+      → LeastTried N F T coarse map faces answer → LevelTried N F T coarse ring taken.Nothing
+  least-none (inl e) (leastFound _ _) = absurd (omega (arith, e))
+  least-none (inr e) (leastFound _ _) = absurd (omega (arith, e))
+  least-none _ (leastInsideOut refuted _ _) = none refuted
+  least-none _ (leastNone refuted) = none (no-role-by-old refuted)
 
 module _ {N F : ℕ} {T : List ℕ} {b : Buffers} (L : LevelLent N F T b) where
   -- what `cover` is lent

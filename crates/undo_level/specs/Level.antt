@@ -2,7 +2,7 @@
 use Prim.Native.Nat.{ℕ, _*_}
 use mathlib.Core.List.{List}
 use lib.ListN.{take}
-use Rattle.theory.specs.Mesh.{Same}
+use Rattle.theory.specs.Mesh.{Rotated}
 use Rattle.theory.specs.Splitting.{firstOn}
 use Rattle.theory.specs.Reading.{Returned}
 use Rattle.theory.specs.Choice.{LeastRole, NoRole}
@@ -26,13 +26,13 @@ pub record LevelLent (N F : ℕ) (T : List ℕ) (b : Buffers) : Type 0 where
 -- The role is the least that has a reading, and the mesh of the returned one, with M vertices and n triangles, stands
 -- in `coarse`.
 pub record Coarser (N F : ℕ) (T coarse : List ℕ) (role M n : ℕ) : Type 0 where
-  pub least : LeastRole Same N T role
+  pub least : LeastRole Rotated N T role
   pub map : List ℕ
   pub faces : List ℕ
-  pub returned : Returned Same N T role (readingIn N F M n coarse map faces)
+  pub returned : Returned Rotated N T role (readingIn N F M n coarse map faces)
 
 -- There is a coarser mesh, and the rings of its edges stand in `ring`; or no role has a reading.
 pub data LevelTried (N F : ℕ) (T coarse ring : List ℕ) : Taken → Type 0 where
   found : {role M n : ℕ} → Coarser N F T coarse role M n → RingBy (3 * n) (firstOn (take (3 * n) coarse)) ring
       → LevelTried N F T coarse ring (taken.Reading role M n)
-  none : NoRole Same N T → LevelTried N F T coarse ring taken.Nothing
+  none : NoRole Rotated N T → LevelTried N F T coarse ring taken.Nothing

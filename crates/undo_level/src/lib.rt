@@ -9,7 +9,8 @@ ghost use Rattle.undo_level.specs.Level.{LevelLent, LevelTried};
 
 // Undoes a proper mesh, the rings of whose edges stand in `ring`, in the least role that has a reading: the coarse mesh
 // goes to `coarse`, and its rings to `ring`. Nothing is taken where no role has one, as where the triangles are no
-// multiple of four. The other buffers hold the covering mesh (`other`, `rows`) and what the roles leave.
+// multiple of four; whether one has one by the old rule does not matter here. The other buffers hold the covering mesh
+// (`other`, `rows`) and what the roles leave.
 pub fn undo_least(
     vertices: usize,
     triangles: usize,
@@ -63,7 +64,7 @@ pub fn undo_least(
         triangles: centres,
     } = taken
     else {
-        return taken;
+        return Taken::Nothing;
     };
     ring_table(
         &coarse[..3 * centres],

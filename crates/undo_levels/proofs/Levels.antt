@@ -4,15 +4,19 @@ use Prim.Native.Nat.{ℕ, suc, _+_, _-_, _*_, _≤_, _<_}
 use native.Mathlib.Omega.{arith}
 use native.Mathlib.Numerals.{add-one}
 use mathlib.Core.Path.{_≡_, refl, sym, ap, subst, subst₂, _∙_}
-use mathlib.Core.Logic.{_≢_}
+use mathlib.Core.Logic.{_≢_, inl, inr}
 use mathlib.Core.List.{List, [], _∷_, _++_}
 use lib.ListN.{length, take, drop}
+use types.Run.{OneOf}
+use denote.Enum.Declared.{tagOf}
 use Rattle.theory.specs.Limits.{mostLevels}
-use Rattle.theory.specs.Mesh.{Same}
+use Rattle.theory.specs.Mesh.{Rotated}
 use Rattle.theory.specs.Splitting.{firstOn}
 use Rattle.theory.specs.Choice.{NoRole, Several, reached, stopped, undone}
 use Rattle.theory.proofs.Results.{several-at-most}
+use Rattle.answers.specs.declared.taken.Taken.{Taken}
 use Rattle.answers.specs.declared.taken.Taken.the-variants as taken
+use Rattle.answers.proofs.taken.Taken as declared
 use Rattle.answers.specs.declared.counts.Counts.{Counts}
 use Rattle.answers.specs.declared.levels.Levels.{Levels}
 use Rattle.answers.specs.Counts.{countsOf, coarseCounts}
@@ -39,9 +43,12 @@ tried-rings : {N F : ℕ} {T coarse ring : List ℕ} {role M n : ℕ}
     → LevelTried N F T coarse ring (taken.Reading role M n) → RingBy (3 * n) (firstOn (take (3 * n) coarse)) ring
 tried-rings (found C R) = R
 
--- where nothing is taken, no role has a reading
-tried-none : {N F : ℕ} {T coarse ring : List ℕ} → LevelTried N F T coarse ring taken.Nothing → NoRole Same N T
-tried-none (none no-role) = no-role
+-- where none is, no role has a reading
+tried-none : {N F : ℕ} {T coarse ring : List ℕ} {answer : Taken} → LevelTried N F T coarse ring answer
+    → OneOf (1 ∷ 2 ∷ []) (tagOf declared.the-type answer) → NoRole Rotated N T
+tried-none (found _ _) (inl e) = absurd (omega (arith, e))
+tried-none (found _ _) (inr e) = absurd (omega (arith, e))
+tried-none (none no-role) _ = no-role
 
 -- ---- one level more
 
@@ -128,12 +135,12 @@ module _ {allowance : ℕ} {counts : Counts} {list out : List ℕ} {b : Buffers}
   levels-reached z = levels-left (rw z reached)
 
   -- no role has a reading
-  pub levels-stopped : {coarse′ ring′ out′ : List ℕ} {answer : Levels} → allowance ≢ 0
-      → LevelTried N F T coarse′ ring′ taken.Nothing → answer ≡ noLevel counts
-      → out′ ≡ T ++ drop (3 * F) out → LevelsUndone allowance N T out out′ answer
-  levels-stopped more tried =
+  pub levels-stopped : {coarse′ ring′ out′ : List ℕ} {tried : Taken} {answer : Levels} → allowance ≢ 0
+      → LevelTried N F T coarse′ ring′ tried → OneOf (1 ∷ 2 ∷ []) (tagOf declared.the-type tried)
+      → answer ≡ noLevel counts → out′ ≡ T ++ drop (3 * F) out → LevelsUndone allowance N T out out′ answer
+  levels-stopped more level refused =
       let one-up : allowance ≡ suc (allowance - 1) = omega arith in
-      levels-left (rw one-up (stopped (tried-none tried)))
+      levels-left (rw one-up (stopped (tried-none level refused)))
 
   -- ---- the next level
 

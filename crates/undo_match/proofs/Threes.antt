@@ -1,14 +1,16 @@
 -- Three vertices, arranged and put in order: they stay the same vertices, and three different ones have only one
--- order. A triangle's vertices are the three at its corners.
-use Prim.Native.Nat.{ℕ, _+_, _*_, _≤_}
+-- order. Three vertices, rotated. A triangle's vertices are the three at its corners.
+use Prim.Native.Nat.{ℕ, _+_, _*_, _%_, _≤_, _<_}
 use native.Mathlib.Omega.{arith}
-use mathlib.Core.Path.{_≡_, _∙_, refl, sym, subst}
+use mathlib.Core.Path.{_≡_, _∙_, refl, sym, ap, subst}
 use mathlib.Core.List.{List}
 use lib.ListN.{length}
-use Rattle.theory.specs.Mesh.{at, On, Same}
+use Rattle.theory.specs.Mesh.{at, On, Same, Rotated}
+use Rattle.theory.proofs.Splitting.{by-three}
 use Rattle.lists.proofs.Lists.{by-eq}
 use Rattle.undo_match.specs.Compared.{Apart, OneOf, first, second, third, SameThree}
 use Rattle.undo_match.specs.Compared.{Arranged, same, front, back, Ordered}
+use Rattle.undo_match.specs.Compared.{RotatedThree, never, once, twice}
 
 -- ---- arranged vertices are the same
 
@@ -103,6 +105,43 @@ module _ {a b c p q r x y z s t u : ℕ} (O : Ordered a b c p q r) (R : Ordered 
       moved′ : {v : ℕ} → OneOf s t u v → OneOf p q r v
       moved′ o = rw (e, f, g) o
 
+-- ---- rotated vertices
+
+-- rotated vertices are equal one by one, from one of the three on
+rotated-cases : {a b c x y z : ℕ} {A : Type 0} → RotatedThree a b c x y z → (a ≡ x → b ≡ y → c ≡ z → A)
+    → (a ≡ y → b ≡ z → c ≡ x → A) → (a ≡ z → b ≡ x → c ≡ y → A) → A
+rotated-cases never here next last = here refl refl refl
+rotated-cases once here next last = last refl refl refl
+rotated-cases twice here next last = next refl refl refl
+
+-- and such vertices are rotated
+pub rotated-here : {a b c x y z : ℕ} → a ≡ x → b ≡ y → c ≡ z → RotatedThree a b c x y z
+rotated-here e f g = rw (e, f, g) never
+
+pub rotated-next : {a b c x y z : ℕ} → a ≡ y → b ≡ z → c ≡ x → RotatedThree a b c x y z
+rotated-next e f g = rw (e, f, g) twice
+
+pub rotated-last : {a b c x y z : ℕ} → a ≡ z → b ≡ x → c ≡ y → RotatedThree a b c x y z
+rotated-last e f g = rw (e, f, g) once
+
+module _ {a b c x y z : ℕ} (o : RotatedThree a b c x y z) where
+  -- the first of them is one of the others
+  pub rotated-first : (a ≡ x → ⊥) → (a ≡ y → ⊥) → (a ≡ z → ⊥) → ⊥
+  rotated-first p q r = rotated-cases o (λ e f g. p e) (λ e f g. q e) (λ e f g. r e)
+
+  -- and where these are different, it tells how far they are rotated
+  pub from-here : Apart x y z → a ≡ x → (b ≡ y) × (c ≡ z)
+  from-here d s = rotated-cases o (λ e f g. (f, g)) (λ e f g. absurd (d .xy (sym s ∙ e)))
+      (λ e f g. absurd (d .zx (sym e ∙ s)))
+
+  pub from-next : Apart x y z → a ≡ y → (b ≡ z) × (c ≡ x)
+  from-next d s = rotated-cases o (λ e f g. absurd (d .xy (sym e ∙ s))) (λ e f g. (f, g))
+      (λ e f g. absurd (d .yz (sym s ∙ e)))
+
+  pub from-last : Apart x y z → a ≡ z → (b ≡ x) × (c ≡ y)
+  from-last d s = rotated-cases o (λ e f g. absurd (d .zx (sym s ∙ e))) (λ e f g. absurd (d .yz (sym e ∙ s)))
+      (λ e f g. (f, g))
+
 -- ---- the vertices of a triangle
 
 -- a vertex on a triangle is one of the three at its corners
@@ -119,19 +158,53 @@ one-on T k l first = record { corner = 3 * k; inside = omega arith; triangle = o
 one-on T k l second = record { corner = 3 * k + 1; inside = omega arith; triangle = omega arith; holds = refl }
 one-on T k l third = record { corner = 3 * k + 2; inside = omega arith; triangle = omega arith; holds = refl }
 
+-- Something is said of the vertices at the corners of triangle k of T and at those of triangle t of S.
+abbrev pub AtCorners : (T S : List ℕ) (k t : ℕ) → (ℕ → ℕ → ℕ → ℕ → ℕ → ℕ → Type 0) → Type 0
+AtCorners T S k t said =
+    said (at T (3 * k)) (at T (3 * k + 1)) (at T (3 * k + 2)) (at S (3 * t)) (at S (3 * t + 1)) (at S (3 * t + 2))
+
 module _ (T S : List ℕ) (k t : ℕ) (l : 3 * k + 3 ≤ length T) (m : 3 * t + 3 ≤ length S) where
   -- so triangles are the same if the vertices at their corners are
-  pub three-same : SameThree (at T (3 * k)) (at T (3 * k + 1)) (at T (3 * k + 2))
-      (at S (3 * t)) (at S (3 * t + 1)) (at S (3 * t + 2)) → Same T k S t
+  pub three-same : AtCorners T S k t SameThree → Same T k S t
   three-same e = record {
     there = λ v o. one-on S t m (e .there v (on-one T k o));
     back = λ v o. one-on T k l (e .back v (on-one S t o));
   }
 
   -- and only then
-  pub same-three : Same T k S t → SameThree (at T (3 * k)) (at T (3 * k + 1)) (at T (3 * k + 2))
-      (at S (3 * t)) (at S (3 * t + 1)) (at S (3 * t + 2))
+  pub same-three : Same T k S t → AtCorners T S k t SameThree
   same-three e = record {
     there = λ v o. on-one S t (e .there v (one-on T k l o));
     back = λ v o. on-one T k (e .back v (one-on S t m o));
   }
+
+  -- corner 0 of a triangle is where it starts
+  start : at T (3 * k + 0) ≡ at T (3 * k)
+  start = ap (at T) (omega arith)
+
+  other-start : at S (3 * t) ≡ at S (3 * t + 0)
+  other-start = ap (at S) (omega arith)
+
+  -- each corner of triangle k holds what the corner of triangle t holds that is so many further on
+  abbrev Further : ℕ → Type 0
+  Further by = (i : ℕ) → i < 3 → at T (3 * k + i) ≡ at S (3 * t + (i + by) % 3)
+
+  -- which is to be that triangle rotated
+  turned : (by : ℕ) → by < 3 → Further by → Rotated T k S t
+  turned by few further =
+      record { inside = omega arith; otherInside = omega arith; by = by; few = few; corners = further }
+
+  -- so a triangle is another rotated if the vertices at its corners are
+  pub three-rotated : AtCorners T S k t RotatedThree → Rotated T k S t
+  three-rotated o = rotated-cases o
+      (λ e f g. turned 0 (omega arith) (by-three _ (start ∙ e ∙ other-start) f g))
+      (λ e f g. turned 1 (omega arith) (by-three _ (start ∙ e) f (g ∙ other-start)))
+      (λ e f g. turned 2 (omega arith) (by-three _ (start ∙ e) (f ∙ other-start) g))
+
+  -- and only then
+  pub rotated-three : Rotated T k S t → AtCorners T S k t RotatedThree
+  rotated-three o = by-three (λ by. Further by → AtCorners T S k t RotatedThree)
+      (λ f. rotated-here (sym start ∙ f 0 (omega arith) ∙ sym other-start) (f 1 (omega arith)) (f 2 (omega arith)))
+      (λ f. rotated-next (sym start ∙ f 0 (omega arith)) (f 1 (omega arith)) (f 2 (omega arith) ∙ sym other-start))
+      (λ f. rotated-last (sym start ∙ f 0 (omega arith)) (f 1 (omega arith) ∙ sym other-start) (f 2 (omega arith)))
+      (o .by) (o .few) (o .corners)

@@ -1,13 +1,16 @@
--- The comparison of triangles by their vertices: what `compare` says of all triangles, `agrees` of one, and
--- `same_vertices` of three vertices and three others, which `ordered` puts in order.
+-- The comparison of triangles: what `compare` says of all of them, `compare_one` of one, `compare_three` of three
+-- vertices and three others, and `same_vertices` of these as sets, which `ordered` puts in order.
 use Prim.Native.Nat.{ℕ, _+_, _*_, _/_, _≤_, _<_}
 use mathlib.Core.Path.{_≡_}
 use mathlib.Core.Logic.{_≢_}
-use mathlib.Core.Bool.{Bool, true}
 use mathlib.Core.List.{List}
 use lib.ListN.{length}
-use Rattle.theory.specs.Mesh.{at, Same}
-use Rattle.theory.specs.Reading.{renamed}
+use Rattle.theory.specs.Mesh.{at, Same, Rotated}
+use Rattle.theory.specs.Reading.{Agreement, renamed}
+use Rattle.undo_match.specs.declared.compare.Comparison.{Comparison}
+use Rattle.undo_match.specs.declared.compare.Comparison.the-variants as comparison
+use Rattle.undo_match.specs.declared.compare.Turning.{Turning}
+use Rattle.undo_match.specs.declared.compare.Turning.the-variants as turning
 
 -- ---- all triangles
 
@@ -21,12 +24,38 @@ pub record CompareLent (F : ℕ) (list vertexMap triangleMap splitting : List �
   pub different : (c d : ℕ) → c < length splitting → d < length splitting → c / 3 ≡ d / 3
       → at splitting c ≡ at splitting d → c ≡ d
 
--- The answer is true exactly if every triangle agrees, under the vertex map, with its triangle of the splitting.
-pub record Compared (F : ℕ) (list vertexMap triangleMap splitting : List ℕ) (answer : Bool) : Type 0 where
-  pub sound : answer ≡ true → (k : ℕ) → k < F → Same (renamed vertexMap list) k splitting (at triangleMap k)
-  pub complete : ((k : ℕ) → k < F → Same (renamed vertexMap list) k splitting (at triangleMap k)) → answer ≡ true
+-- Each of F triangles agrees, under the vertex map, with its triangle of the splitting.
+abbrev pub AllAgree : Agreement → (F : ℕ) (list vertexMap triangleMap splitting : List ℕ) → Type 0
+AllAgree agree F list vertexMap triangleMap splitting =
+    (k : ℕ) → k < F → agree (renamed vertexMap list) k splitting (at triangleMap k)
+
+-- How F triangles compare: all up to rotation of corners; or all by their vertices, and this is the least that does not
+-- up to rotation; or not all by their vertices.
+pub data Compared (F : ℕ) (list vertexMap triangleMap splitting : List ℕ) : Comparison → Type 0 where
+  agree : AllAgree Rotated F list vertexMap triangleMap splitting
+      → Compared F list vertexMap triangleMap splitting comparison.Agree
+  insideOut : {k : ℕ} → AllAgree Same F list vertexMap triangleMap splitting → k < F
+      → (Rotated (renamed vertexMap list) k splitting (at triangleMap k) → ⊥)
+      → AllAgree Rotated k list vertexMap triangleMap splitting
+      → Compared F list vertexMap triangleMap splitting (comparison.InsideOut k)
+  differ : (AllAgree Same F list vertexMap triangleMap splitting → ⊥)
+      → Compared F list vertexMap triangleMap splitting comparison.Differ
+
+-- What triangles before triangle k compare as, with triangle k: the first that is the other way round is named.
+abbrev pub withOne : Comparison → ℕ → Turning → Comparison
+withOne before k turning.Rotated = before
+withOne comparison.Agree k turning.Reversed = comparison.InsideOut k
+withOne (comparison.InsideOut j) k turning.Reversed = comparison.InsideOut j
+withOne comparison.Differ k turning.Reversed = comparison.Differ
+withOne before k turning.Other = comparison.Differ
 
 -- ---- one triangle
+
+-- How triangle k of T compares with triangle t of S.
+pub data ComparedOne (T : List ℕ) (k : ℕ) (S : List ℕ) (t : ℕ) : Turning → Type 0 where
+  rotated : Rotated T k S t → ComparedOne T k S t turning.Rotated
+  reversed : Same T k S t → (Rotated T k S t → ⊥) → ComparedOne T k S t turning.Reversed
+  other : (Same T k S t → ⊥) → ComparedOne T k S t turning.Other
 
 -- Three different vertices.
 pub record Apart (x y z : ℕ) : Type 0 where
@@ -34,9 +63,9 @@ pub record Apart (x y z : ℕ) : Type 0 where
   pub yz : y ≢ z
   pub zx : z ≢ x
 
--- What `agrees` is lent: triangle k, whose corners the vertex map has, and triangle t of the splitting, with three
+-- What `compare_one` is lent: triangle k, whose corners the vertex map has, and triangle t of the splitting, with three
 -- different corners.
-pub record AgreesLent (k : ℕ) (list vertexMap : List ℕ) (t : ℕ) (splitting : List ℕ) : Type 0 where
+pub record OneLent (k : ℕ) (list vertexMap : List ℕ) (t : ℕ) (splitting : List ℕ) : Type 0 where
   pub listed : 3 * k + 3 ≤ length list
   pub first : at list (3 * k) < length vertexMap
   pub second : at list (3 * k + 1) < length vertexMap
@@ -56,6 +85,18 @@ pub data OneOf (a b c : ℕ) : ℕ → Type 0 where
 pub record SameThree (a b c x y z : ℕ) : Type 0 where
   pub there : (v : ℕ) → OneOf a b c v → OneOf x y z v
   pub back : (v : ℕ) → OneOf x y z v → OneOf a b c v
+
+-- The vertices a, b, c are x, y, z rotated.
+pub data RotatedThree (a b c : ℕ) : (x y z : ℕ) → Type 0 where
+  never : RotatedThree a b c a b c
+  once : RotatedThree a b c b c a
+  twice : RotatedThree a b c c a b
+
+-- How the vertices a, b, c compare with x, y, z.
+pub data ComparedThree (a b c x y z : ℕ) : Turning → Type 0 where
+  rotated : RotatedThree a b c x y z → ComparedThree a b c x y z turning.Rotated
+  reversed : SameThree a b c x y z → (RotatedThree a b c x y z → ⊥) → ComparedThree a b c x y z turning.Reversed
+  other : (SameThree a b c x y z → ⊥) → ComparedThree a b c x y z turning.Other
 
 -- The vertices a, b, c in another order: neighbours are swapped, as often as it takes.
 pub data Arranged (a b c : ℕ) : ℕ → ℕ → ℕ → Type 0 where

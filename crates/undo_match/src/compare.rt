@@ -1,47 +1,88 @@
 // The comparison of every input triangle, under the maps, with its triangle of the splitting.
 use lists::at;
 ghost use Prim.Native.Nat.{_≤_};
-ghost use Rattle.theory.specs.Mesh.{Same};
+ghost use mathlib.Core.Path.{_≡_};
 ghost use Rattle.theory.specs.Reading.{renamed};
 ghost use Rattle.lists.specs.Decides.{Decides};
-ghost use Rattle.undo_match.specs.Compared.{CompareLent, Compared, AgreesLent, Apart, SameThree, Ordered};
+ghost use Rattle.undo_match.specs.declared.compare.Turning.the-variants as turning;
+ghost use Rattle.undo_match.specs.Compared.{CompareLent, Compared, withOne, OneLent, ComparedOne};
+ghost use Rattle.undo_match.specs.Compared.{Apart, ComparedThree, RotatedThree, SameThree, Ordered};
+
+// How the triangles of a list compare, under the maps, with their own of the splitting: each is a rotation of its own;
+// or each has the vertices of its own, and the one named is the least that is no rotation; or one has other vertices.
+pub enum Comparison {
+    Agree,
+    InsideOut(usize),
+    Differ,
+}
+
+// How one triangle compares with another: a rotation of it, the same vertices in the other turning, or other vertices.
+enum Turning {
+    Rotated,
+    Reversed,
+    Other,
+}
 
 // Three vertices in order.
 struct Three(u16, u16, u16);
 
-// Whether each of the triangles has, under the vertex map `vertices`, the vertices of its triangle of `splitting`,
-// which the triangle map `faces` names.
+// Compares each of the triangles, under the vertex map `vertices`, with its triangle of `splitting`, which the triangle
+// map `faces` names. It stops at the first that has other vertices.
 pub fn compare(
     triangles: usize,
     list: &[u16],
     vertices: &[u16],
     faces: &[u16],
     splitting: &[u16],
-) -> bool
+) -> Comparison
     requires { ⌜ CompareLent triangles (now list) (now vertices) (now faces) (now splitting) ⌝ }
     ensures { λ r. ⌜ Compared triangles (now (list .entry)) (now (vertices .entry)) (now (faces .entry))
         (now (splitting .entry)) r ⌝ }
 {
+    let mut compared = Comparison::Agree;
     let mut k = 0;
     while k < triangles {
-        if !agrees(k, list, vertices, at(faces, k), splitting) {
-            return false;
+        let turning = compare_one(k, list, vertices, at(faces, k), splitting);
+        compared = with_one(compared, k, turning);
+        if let Comparison::Differ = compared {
+            return compared;
         }
         k += 1;
     }
-    true
+    compared
 }
 
-// Whether triangle k has, under the vertex map `vertices`, the vertices of triangle t of `splitting`.
-fn agrees(k: usize, list: &[u16], vertices: &[u16], t: usize, splitting: &[u16]) -> bool
-    requires { ⌜ AgreesLent k (now list) (now vertices) t (now splitting) ⌝ }
-    ensures { λ r. ⌜ Decides
-        (Same (renamed (now (vertices .entry)) (now (list .entry))) k (now (splitting .entry)) t) r ⌝ }
+// What triangles before triangle k compare as, with triangle k.
+fn with_one(before: Comparison, k: usize, turning: Turning) -> Comparison
+    ensures { λ r. ⌜ r ≡ withOne before k turning ⌝ }
+{
+    match turning {
+        Turning::Rotated => before,
+        Turning::Reversed => first_turned(before, k),
+        Turning::Other => Comparison::Differ,
+    }
+}
+
+// The same where triangle k is the other way round: it is named if none before it is.
+fn first_turned(before: Comparison, k: usize) -> Comparison
+    ensures { λ r. ⌜ r ≡ withOne before k turning.Reversed ⌝ }
+{
+    let Comparison::Agree = before else {
+        return before;
+    };
+    Comparison::InsideOut(k)
+}
+
+// Compares triangle k, under the vertex map `vertices`, with triangle t of `splitting`.
+fn compare_one(k: usize, list: &[u16], vertices: &[u16], t: usize, splitting: &[u16]) -> Turning
+    requires { ⌜ OneLent k (now list) (now vertices) t (now splitting) ⌝ }
+    ensures { λ r. ⌜ ComparedOne (renamed (now (vertices .entry)) (now (list .entry))) k
+        (now (splitting .entry)) t r ⌝ }
 {
     let a = vertices[at(list, 3 * k)];
     let b = vertices[at(list, 3 * k + 1)];
     let c = vertices[at(list, 3 * k + 2)];
-    same_vertices(
+    compare_three(
         a,
         b,
         c,
@@ -51,7 +92,38 @@ fn agrees(k: usize, list: &[u16], vertices: &[u16], t: usize, splitting: &[u16])
     )
 }
 
-// Whether two triangles have the same three vertices, where those of the second are different.
+// Compares three vertices with three others, which are different.
+fn compare_three(a: u16, b: u16, c: u16, x: u16, y: u16, z: u16) -> Turning
+    requires { ⌜ Apart x y z ⌝ }
+    ensures { λ r. ⌜ ComparedThree a b c x y z r ⌝ }
+{
+    if rotated(a, b, c, x, y, z) {
+        return Turning::Rotated;
+    }
+    if same_vertices(a, b, c, x, y, z) {
+        return Turning::Reversed;
+    }
+    Turning::Other
+}
+
+// Whether a, b, c are x, y, z rotated, where these are different.
+fn rotated(a: u16, b: u16, c: u16, x: u16, y: u16, z: u16) -> bool
+    requires { ⌜ Apart x y z ⌝ }
+    ensures { λ r. ⌜ Decides (RotatedThree a b c x y z) r ⌝ }
+{
+    if a == x {
+        return b == y && c == z;
+    }
+    if a == y {
+        return b == z && c == x;
+    }
+    if a == z {
+        return b == x && c == y;
+    }
+    false
+}
+
+// Whether a, b, c are the vertices x, y, z, which are different.
 fn same_vertices(a: u16, b: u16, c: u16, x: u16, y: u16, z: u16) -> bool
     requires { ⌜ Apart x y z ⌝ }
     ensures { λ r. ⌜ Decides (SameThree a b c x y z) r ⌝ }

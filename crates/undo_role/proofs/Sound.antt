@@ -6,7 +6,7 @@ use mathlib.Core.Logic.{_≢_}
 use mathlib.Core.List.{List}
 use lib.ListN.{length, take}
 use lib.Seq.{length-take-le, ext-getD}
-use Rattle.theory.specs.Mesh.{at, HasEdge, Same, Reach}
+use Rattle.theory.specs.Mesh.{at, HasEdge, Same, Reach, OtherwiseProper}
 use Rattle.theory.specs.Splitting.{edgeNo}
 use Rattle.theory.specs.Reading.{renamed}
 use Rattle.theory.proofs.Mesh.{on-triangle}
@@ -31,6 +31,10 @@ renamed-agree f g T same = ext-getD 0 (renamed f T) (renamed g T) (renamed-lengt
   where
     entry : (c : ℕ) → c < length T → at (renamed f T) c ≡ at (renamed g T) c
     entry c l = renamed-at f T c l ∙ same c l ∙ sym (renamed-at g T c l)
+
+-- so to rename by a map is to rename by its front, where all vertices are
+pub renamed-front : {N : ℕ} {T : List ℕ} → OtherwiseProper N T → (map : List ℕ) → renamed (take N map) T ≡ renamed map T
+renamed-front {N} {T} P map = renamed-agree (take N map) map T (λ c l. at-take N map (at T c) (P .below c l))
 
 module _ {N F : ℕ} {T W : List ℕ} {s : ℕ} {marks : List ℕ} (S : Searched N F T W s marks)
     {M F′ : ℕ} {K vertexRank rank C : List ℕ} (B : Tables N F W marks M F′ K vertexRank rank C) where
@@ -93,8 +97,5 @@ module _ {N F : ℕ} {T W : List ℕ} {s : ℕ} {marks : List ℕ} (S : Searched
         ∙ found-corners tm (E .quarter) (D .claims) (E .once) (D .across) k i l q b n h;
     agreed = λ k l.
         let b : k < F = omega (arith, S .whole) in
-        rw (cut, at-take F tm k b) (E .agreed k b);
+        rw (renamed-front (S .search .proper .otherwise) vm, at-take F tm k b) (E .agreed k b);
   }
-    where
-      cut : renamed (take N vm) T ≡ renamed vm T
-      cut = renamed-agree (take N vm) vm T (λ c l. at-take N vm (at T c) (S .search .proper .otherwise .below c l))

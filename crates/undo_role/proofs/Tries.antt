@@ -9,10 +9,12 @@ use mathlib.Core.Bool.{Bool, true, false, true≢false}
 use mathlib.Core.List.{List}
 use lib.ListN.{length, take}
 use Rattle.theory.specs.Counting.{count}
-use Rattle.theory.specs.Mesh.{at, triangles, Same}
-use Rattle.theory.specs.Splitting.{firstOn, edges, edgeNo}
-use Rattle.theory.specs.Reading.{Reading, ReadingIn, Returned}
+use Rattle.theory.specs.Mesh.{at, triangles, Same, Rotated}
+use Rattle.theory.specs.Splitting.{firstOn, edges, edgeNo, split}
+use Rattle.theory.specs.Reading.{Agreement, renamed, Reading, ReadingIn, Disagrees, Returned}
 use Rattle.theory.proofs.Agreement.{same-implies}
+use Rattle.theory.proofs.Rotation.{rotated-implies}
+use Rattle.theory.proofs.OldRule.{agrees-returned}
 use Rattle.theory.proofs.Lawful.{same-lawful}
 use Rattle.theory.proofs.Canonical.{returned-exists}
 use Rattle.theory.proofs.Finite.{tabulate, tabulate-at}
@@ -30,13 +32,16 @@ use Rattle.answers.specs.Taken.{readingIn}
 use Rattle.undo_cover.specs.Cover.{CoverMade}
 use Rattle.undo_cover.specs.Starts.{startOf}
 use Rattle.undo_match.specs.Selected.{Selected}
+use Rattle.undo_match.specs.Compared.{AllAgree, Compared, agree as agreed, insideOut, differ}
+use Rattle.undo_match.specs.declared.compare.Comparison.{Comparison}
+use Rattle.undo_match.specs.declared.compare.Comparison.the-variants as comparison
 use Rattle.undo_stages.specs.Role.{FindLent, Gathered, TilesFound, nowhere, uneven, quarter}
 use Rattle.undo_stages.specs.Role.{NumberTilesLent, AddedUp, even, odd, CoarseNumbered}
 use Rattle.undo_stages.specs.Maps.{VerticesLent, VerticesMapped, TrianglesLent, TrianglesMapped, AllLent, AllCompared}
 use Rattle.undo_stages.specs.declared.Counted.{Counted}
 use Rattle.undo_stages.specs.declared.Counted.the-variants as counted
 use Rattle.undo_role.specs.Buffers.{buffers, Rooms}
-use Rattle.undo_role.specs.Tried.{Undoable, RoleLent}
+use Rattle.undo_role.specs.Tried.{Undoable, RoleLent, OldOnly}
 use Rattle.undo_role.proofs.Begins.{Begun, starts, nowhere as begunNowhere, start-begun}
 use Rattle.undo_role.proofs.Coarse.{Searched, Tables, AcrossOnly, Sources, Tested}
 use Rattle.undo_role.proofs.Coarse.{marked-reach, tables-built}
@@ -44,7 +49,7 @@ use Rattle.undo_role.proofs.Complete.{returned-quarter, returned-count,
 use Rattle.undo_role.proofs.Complete.{returned-once, returned-tested}
 use Rattle.undo_cover.proofs.Covers.{Tabled, covering, tile-row, tile-beside}
 use Rattle.undo_role.proofs.Lent.{rows-below, claimed-below, passed-below, splitting-different}
-use Rattle.undo_role.proofs.Sound.{tables-found}
+use Rattle.undo_role.proofs.Sound.{renamed-front, tables-found}
 use Rattle.undo_role.proofs.Stages.{stage-tables, stage-rings}
 
 -- a test that is false is not true
@@ -382,36 +387,102 @@ module _ {role N F : ℕ} {T other rows ring marks₀ coarse₀ numbers₀ map�
             different = splitting-different (P .searched) coarsened;
           }
 
-          module _ {answerC : Bool} (A : AllCompared F n T coarse numbers map faces answerC) where
-            -- where the triangles do not agree, there is no reading
-            pub unlike : answerC ≡ false → ReadingIn Same N T role → ⊥
-            unlike e R = go (returned R)
-              where
-                go : (r : Reading) × Returned Same N T role r → ⊥
-                go (r, R) =
-                    test-failed e (A .compared (Z .vertices) numbered .complete
-                    (returned-tested (P .searched) R (P .begins) coarsened sources map faces
-                    (λ p l. map-coarse R p l ∙ sym (at-take (3 * n) coarse p l)) (map-numbers R) (faces-once R)
-                    .agreed))
+          module _ {answerC : Comparison} (A : AllCompared F n T coarse numbers map faces answerC) where
+            -- The triangles agree, as they stand in the buffers.
+            abbrev Agree : Agreement → ℕ → Type 0
+            Agree agree G = AllAgree agree G T map faces (split (Z .vertices) (take (3 * n) coarse))
 
-            module _ {M : ℕ} (m : answer ≡ counted.Holds M) (v : answerV ≡ true) (t : answerT ≡ true)
-                (c : answerC ≡ true) where
-              -- and where all answers are true, all is as tested
-              tested : Tested N F (Z .vertices) n T kept (take (3 * n) coarse) corners numbers claimed map faces
-              tested = record {
+            -- what the comparison came to
+            compared : {seen : Comparison} → answerC ≡ seen
+                → Compared F T map faces (split (Z .vertices) (take (3 * n) coarse)) seen
+            compared e = subst (Compared F T map faces (split (Z .vertices) (take (3 * n) coarse))) e
+                (A .compared (Z .vertices) numbered)
+
+            -- where the triangles differ, there is no reading by the old rule
+            pub unlike : answerC ≡ comparison.Differ → ReadingIn Same N T role → ⊥
+            unlike e R = go (compared e) (returned R)
+              where
+                go : Compared F T map faces (split (Z .vertices) (take (3 * n) coarse)) comparison.Differ
+                    → (r : Reading) × Returned Same N T role r → ⊥
+                go (differ not) (r, R) =
+                    not (returned-tested (P .searched) R (P .begins) coarsened sources map faces
+                    (λ p l. map-coarse R p l ∙ sym (at-take (3 * n) coarse p l)) (map-numbers R) (faces-once R)
+                    .agreed)
+
+            module _ {M : ℕ} (m : answer ≡ counted.Holds M) (v : answerV ≡ true) (t : answerT ≡ true) where
+              -- and where they have the same vertices, all is as tested
+              tested : Agree Same F
+                  → Tested N F (Z .vertices) n T kept (take (3 * n) coarse) corners numbers claimed map faces
+              tested alike = record {
                 quarter = P .quarter;
                 count = omega (arith, all-counted m .1, edges-counted);
                 kept = λ p b. X .coarseHeld v p b ∙ sym (at-take (3 * n) coarse p b);
                 between = X .numbersHeld v;
                 once = Y .holds .sound t;
-                agreed = A .compared (Z .vertices) numbered .sound c;
+                agreed = alike;
               }
 
-              -- so the maps are the returned reading's
-              pub read : {table : List ℕ} → Rooms N F (buffers other rows ring marks coarse numbers map faces table)
-                  → Returned Same N T role (readingIn N F M n coarse map faces)
-              read room =
-                  rw (all-counted m .0)
-                  (found-returned (P .searched .search) (tables-built (P .searched) coarsened) same-implies
-                  (tables-found (P .searched) coarsened (omega (arith, room .map .room))
-                  (omega (arith, room .faces .room)) sources tested) role some (P .begins))
+              module _ {table : List ℕ}
+                  (room : Rooms N F (buffers other rows ring marks coarse numbers map faces table)) where
+                -- The reading that stands in the buffers.
+                abbrev made-reading : Reading
+                made-reading = readingIn N F M n coarse map faces
+
+                -- so the maps are those of the reading that the old rule returns
+                read-old : Agree Same F → Returned Same N T role made-reading
+                read-old alike =
+                    rw (all-counted m .0)
+                    (found-returned (P .searched .search) (tables-built (P .searched) coarsened) same-implies
+                    (tables-found (P .searched) coarsened (omega (arith, room .map .room))
+                    (omega (arith, room .faces .room)) sources (tested alike)) role some (P .begins))
+
+                -- a triangle agrees by these maps as it does by the buffers
+                agrees-there : {k : ℕ} → k < F
+                    → Rotated (renamed map T) k (split (Z .vertices) (take (3 * n) coarse)) (at faces k)
+                    → Rotated (renamed (take N map) T) k (split M (take (3 * n) coarse)) (at (take F faces) k)
+                agrees-there {k} l a = rw (
+                  renamed-front (mesh .proper .otherwise) map,
+                  all-counted m .0,
+                  at-take F faces k l,
+                ) a
+
+                agrees-back : {k : ℕ} → k < F
+                    → Rotated (renamed (take N map) T) k (split M (take (3 * n) coarse)) (at (take F faces) k)
+                    → Rotated (renamed map T) k (split (Z .vertices) (take (3 * n) coarse)) (at faces k)
+                agrees-back {k} l a = rw (
+                  renamed-front (mesh .proper .otherwise) map,
+                  all-counted m .0,
+                  at-take F faces k l,
+                ) at a
+
+                -- where all agree, it is the returned one
+                pub read : answerC ≡ comparison.Agree → Returned Rotated N T role made-reading
+                read e = go (compared e)
+                  where
+                    go : Compared F T map faces (split (Z .vertices) (take (3 * n) coarse)) comparison.Agree
+                        → Returned Rotated N T role made-reading
+                    go (agreed all) = agrees-returned
+                        (read-old (λ k l. rotated-implies .same (all k l)))
+                        (λ k d. d .differs (agrees-there (inside d) (all k (inside d))))
+                      where
+                        inside : {k : ℕ} → Disagrees Rotated T made-reading k → k < F
+                        inside d = omega (arith, mesh .whole, d .inside)
+
+                -- and else the least that does not is known
+                pub read-inside-out : {k : ℕ} → answerC ≡ comparison.InsideOut k → OldOnly N T role k
+                read-inside-out e = go (compared e)
+                  where
+                    go : {k : ℕ}
+                        → Compared F T map faces (split (Z .vertices) (take (3 * n) coarse)) (comparison.InsideOut k)
+                        → OldOnly N T role k
+                    go (insideOut same l not before) = record {
+                      reading = made-reading;
+                      returned = read-old same;
+                      least = record {
+                        here = record {
+                          inside = omega (arith, mesh .whole);
+                          differs = λ a. not (agrees-back l a);
+                        };
+                        before = λ j b d. d .differs (agrees-there (omega arith) (before j b));
+                      };
+                    }

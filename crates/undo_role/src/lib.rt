@@ -2,6 +2,7 @@
 // compared, and it is here that tables become readings. Every table lives in a slice that the caller lends. It takes
 // time linear in vertices and triangles, and assumes nothing.
 use answers::taken::Taken;
+use undo_match::compare::Comparison;
 use undo_stages::Counted;
 use undo_stages::compare_all;
 use undo_stages::find_tiles;
@@ -12,7 +13,8 @@ ghost use Rattle.undo_role.specs.Buffers.{buffers};
 ghost use Rattle.undo_role.specs.Tried.{RoleLent, TriedRole};
 
 // Tries a role of triangle 0. Where it has a reading, the coarse mesh stands in `coarse`, the vertex map in `map` and
-// the triangle map in `faces`; otherwise these hold what they please. Stage by stage the buffers hold:
+// the triangle map in `faces`; otherwise these hold what they please. Where it has a reading by the old rule alone, the
+// answer is the least triangle that disagrees. Stage by stage the buffers hold:
 //     find_tiles     marks: the tiles that are reached; faces: their rows; map: a queue; table: the edges opened
 //     number_tiles   coarse: the coarse mesh; numbers: the vertices on its half-edges; map: ranks; table: marks of
 //                    vertices, then the rings of the coarse mesh
@@ -83,12 +85,14 @@ pub fn try_role(
     if !map_triangles(triangles, other, marks, faces, table) {
         return Taken::Nothing;
     }
-    if !compare_all(triangles, count, list, coarse, numbers, map, faces, table) {
-        return Taken::Nothing;
-    }
-    Taken::Reading {
-        role,
-        vertices: kept,
-        triangles: count,
+    let compared = compare_all(triangles, count, list, coarse, numbers, map, faces, table);
+    match compared {
+        Comparison::Agree => Taken::Reading {
+            role,
+            vertices: kept,
+            triangles: count,
+        },
+        Comparison::InsideOut(place) => Taken::InsideOut { place },
+        Comparison::Differ => Taken::Nothing,
     }
 }

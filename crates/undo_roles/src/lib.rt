@@ -3,15 +3,17 @@
 use answers::taken::Taken;
 use limits::limits::Limits;
 use undo_role::try_role;
+ghost use mathlib.Core.Path.{_≡_};
 ghost use Rattle.undo_role.specs.Buffers.{buffers};
 ghost use Rattle.undo_role.specs.Tried.{RolesLent};
-ghost use Rattle.undo_roles.specs.Least.{LeastTried};
+ghost use Rattle.undo_roles.specs.Least.{LeastTried, earlierOf};
 ghost use Rattle.undo_roles.specs.Choices.{ChoiceLent, ChosenTried};
 
 // How many roles there are: 0 to 3.
 const ROLES: usize = 4;
 
 // Tries the roles from 0 to 3 and stops at the first that has a reading, which is left in `coarse`, `map` and `faces`.
+// A role that has one by the old rule alone is remembered, and answered where no role has a reading.
 pub fn least_role(
     vertices: usize,
     triangles: usize,
@@ -31,6 +33,7 @@ pub fn least_role(
     ensures { λ r. ⌜ LeastTried vertices triangles (now (list .entry)) (now (coarse .exit)) (now (map .exit))
         (now (faces .exit)) r ⌝ }
 {
+    let mut remembered = Taken::Nothing;
     let mut role = 0;
     while role < ROLES {
         let tried = try_role(
@@ -48,12 +51,27 @@ pub fn least_role(
             faces,
             table,
         );
-        let Taken::Nothing = tried else {
+        if let Taken::Reading {
+            role: _,
+            vertices: _,
+            triangles: _,
+        } = tried {
             return tried;
-        };
+        }
+        remembered = earlier(remembered, tried);
         role += 1;
     }
-    Taken::Nothing
+    remembered
+}
+
+// What is remembered of roles that have no reading, with one more: the first of them that has one by the old rule.
+fn earlier(remembered: Taken, tried: Taken) -> Taken
+    ensures { λ r. ⌜ r ≡ earlierOf remembered tried ⌝ }
+{
+    let Taken::Nothing = remembered else {
+        return remembered;
+    };
+    tried
 }
 
 // Tries the role asked, or all roles where any will do. The reading is left in `coarse`, `map` and `faces`.

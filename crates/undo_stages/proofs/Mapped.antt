@@ -20,6 +20,7 @@ use Rattle.split.specs.Fours.{FoursLent}
 use Rattle.undo_match.specs.Selected.{Selected}
 use Rattle.undo_match.specs.Claims.{Claimed}
 use Rattle.undo_match.specs.Compared.{CompareLent, Compared}
+use Rattle.undo_match.specs.declared.compare.Comparison.{Comparison}
 use Rattle.lists.proofs.Decides.{false-true}
 use Rattle.undo_stages.specs.Maps.{VerticesLent, VerticesMapped, TrianglesLent, AllLent, AllCompared}
 
@@ -158,7 +159,7 @@ module _ {F n : ℕ} {list coarse numbers vertexMap triangleMap splitting : List
         })
 
     -- which says whether they agree
-    pub all-compared : {answer : Bool} → Compared F list vertexMap triangleMap (take (12 * n) splitting′) answer
+    pub all-compared : {answer : Comparison} → Compared F list vertexMap triangleMap (take (12 * n) splitting′) answer
         → AllCompared F n list coarse numbers vertexMap triangleMap answer
     all-compared {answer} C = record {
       compared = λ M numbered. subst (λ (S : List ℕ). Compared F list vertexMap triangleMap S answer)

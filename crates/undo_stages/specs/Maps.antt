@@ -15,6 +15,7 @@ use Rattle.mesh_mates.specs.Others.{HasMate}
 use Rattle.undo_match.specs.Selected.{SelectLent, Selected}
 use Rattle.undo_match.specs.Claims.{ClaimsLent, Claimed}
 use Rattle.undo_match.specs.Compared.{Compared}
+use Rattle.undo_match.specs.declared.compare.Comparison.{Comparison}
 
 -- ---- vertices
 
@@ -78,6 +79,7 @@ pub record AllLent (F n : ℕ) (list coarse numbers vertexMap triangleMap splitt
       → at (split coarseVertices (take (3 * n) coarse)) c ≡ at (split coarseVertices (take (3 * n) coarse)) d → c ≡ d
 
 -- Where the numbers are those from M up, the triangles are compared with those of the coarse list's splitting.
-pub record AllCompared (F n : ℕ) (list coarse numbers vertexMap triangleMap : List ℕ) (answer : Bool) : Type 0 where
+pub record AllCompared (F n : ℕ) (list coarse numbers vertexMap triangleMap : List ℕ) (answer : Comparison)
+    : Type 0 where
   pub compared : (M : ℕ) → Tabulated (edgeNo M (take (3 * n) coarse)) (3 * n) numbers
       → Compared F list vertexMap triangleMap (split M (take (3 * n) coarse)) answer

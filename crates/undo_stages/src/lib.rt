@@ -15,6 +15,7 @@ use split::number_edges;
 use split::write_fours;
 use undo_cover::start::start;
 use undo_match::claims::claims;
+use undo_match::compare::Comparison;
 use undo_match::compare::compare;
 use undo_match::select::select;
 use undo_match::select::selected_ring;
@@ -140,7 +141,7 @@ pub fn map_triangles(
     inverts(claimed, triangles, map)
 }
 
-// Whether every triangle has, under the maps, the vertices of its triangle of the splitting of the coarse mesh.
+// Compares every triangle, under the maps, with its triangle of the splitting of the coarse mesh.
 pub fn compare_all(
     triangles: usize,
     count: usize,
@@ -150,7 +151,7 @@ pub fn compare_all(
     vertices: &[u16],
     faces: &[u16],
     splitting: &mut [u16],
-) -> bool
+) -> Comparison
     requires { ⌜ AllLent triangles count (now list) (now coarse) (now numbers) (now vertices) (now faces)
         (now splitting) ⌝ }
     ensures { λ r. ⌜ AllCompared triangles count (now (list .entry)) (now (coarse .entry)) (now (numbers .entry))

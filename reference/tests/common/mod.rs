@@ -1,7 +1,7 @@
 //! Small meshes of all kinds, made with a small generator of random numbers.
 #![allow(dead_code)]
 
-use reference::{proper, split};
+use reference::{proper, split, Reading};
 use std::collections::{BTreeMap, BTreeSet};
 
 /// A small generator of random numbers (splitmix64), with a fixed seed.
@@ -52,7 +52,8 @@ pub fn has(mesh: &Mesh, t: [u16; 3]) -> bool {
 }
 
 /// A connected mesh of `f` triangles: each is put on an edge of an earlier one, its third corner new, or, in `old` of 100 tries, an
-/// old vertex. With `manifold`, edges get no third triangle, and there are fewer triangles if the mesh closes before.
+/// old vertex. One in ten runs through this edge the same way as the earlier one, the others the opposite way. With `manifold`, edges
+/// get no third triangle, and there are fewer triangles if the mesh closes before.
 pub fn random_mesh(r: &mut Random, f: usize, old: usize, manifold: bool) -> Mesh {
     let mut mesh: Mesh = (3, vec![[0, 1, 2]]);
     for _ in 0..100 * f {
@@ -71,7 +72,7 @@ pub fn random_mesh(r: &mut Random, f: usize, old: usize, manifold: bool) -> Mesh
             continue;
         }
         mesh.0 = mesh.0.max(third + 1);
-        mesh.1.push([p, q, third]);
+        mesh.1.push(if r.below(10) == 0 { [p, q, third] } else { [q, p, third] });
     }
     mesh
 }
@@ -151,16 +152,30 @@ pub fn compact(mesh: Mesh) -> Mesh {
     (used.len() as u16, mesh.1.iter().map(|t| t.map(to)).collect())
 }
 
-/// Vertices renumbered, triangles reordered, each rotated or turned over.
+/// Vertices renumbered, some triangles turned over, triangles reordered and rotated.
 pub fn disguise(r: &mut Random, mesh: &Mesh) -> Mesh {
     let mut to: Vec<u16> = (0..mesh.0).collect();
     r.shuffle(&mut to);
     let mut triangles: Vec<[u16; 3]> = mesh.1.iter().map(|t| t.map(|v| to[usize::from(v)])).collect();
+    turn_some(r, &mut triangles);
     r.shuffle(&mut triangles);
     for t in &mut triangles {
-        r.shuffle(t);
+        t.rotate_left(r.below(3));
     }
     (mesh.0, triangles)
+}
+
+/// Turns over one triangle, or any tiles of a splitting (four triangles after one another), or any triangles; in half of the tries none.
+fn turn_some(r: &mut Random, triangles: &mut [[u16; 3]]) {
+    match r.below(6) {
+        0 => {
+            let k = r.below(triangles.len());
+            triangles[k] = turned(triangles[k]);
+        }
+        1 => triangles.chunks_mut(4).filter(|_| r.below(2) == 0).flatten().for_each(|t| *t = turned(*t)),
+        2 => triangles.iter_mut().filter(|_| r.below(2) == 0).for_each(|t| *t = turned(*t)),
+        _ => {}
+    }
 }
 
 /// The vertex `from` replaced by `to` in the triangles of the given numbers.
@@ -336,6 +351,38 @@ pub fn sorted(mut t: [u16; 3]) -> [u16; 3] {
     t
 }
 
+/// The triangle turned over.
+pub fn turned([a, b, c]: [u16; 3]) -> [u16; 3] {
+    [a, c, b]
+}
+
+/// The corners rotated so that the least one comes first: equal for two triangles exactly when they agree up to rotation of corners.
+pub fn least_first(mut t: [u16; 3]) -> [u16; 3] {
+    while t[0] > t[1] || t[0] > t[2] {
+        t.rotate_left(1);
+    }
+    t
+}
+
+/// The mesh with its triangles turned over in all ways.
+pub fn turnings(mesh: &Mesh) -> Vec<Mesh> {
+    let turn = |set: usize| move |(k, &t): (usize, &[u16; 3])| if set >> k & 1 == 1 { turned(t) } else { t };
+    (0..1 << mesh.1.len()).map(|set| (mesh.0, mesh.1.iter().enumerate().map(turn(set)).collect())).collect()
+}
+
+/// The coarse mesh of a reading.
+pub fn coarse_of(reading: &Reading) -> Mesh {
+    (reading.vertices as u16, reading.mesh.chunks(3).map(|t| [t[0], t[1], t[2]]).collect())
+}
+
+/// The input triangles, upward, that do not agree up to rotation of corners with those of the splitting to which they are matched.
+pub fn disagreeing(input: &Mesh, reading: &Reading) -> Vec<usize> {
+    let fine = split_of(&coarse_of(reading));
+    let image = |k: usize| input.1[k].map(|v| reading.vertex_map[usize::from(v)]);
+    let matched = |k: usize| fine.1[usize::from(reading.triangle_map[k])];
+    (0..input.1.len()).filter(|&k| least_first(image(k)) != least_first(matched(k))).collect()
+}
+
 /// All ways to order `0..n`.
 fn orders(n: u16) -> Vec<Vec<u16>> {
     if n == 0 {
@@ -388,36 +435,46 @@ fn choices(n: usize, k: usize) -> Vec<Vec<usize>> {
 /// tried vertex by vertex, in the order in which the vertices stand in `fine`, and given up when a whole triangle of `fine` is
 /// matched to what is no triangle of the input.
 pub fn matches(input: &Mesh, fine: &Mesh) -> Vec<Vec<u16>> {
-    let triangles: BTreeSet<[u16; 3]> = input.1.iter().map(|&t| sorted(t)).collect();
-    let mut order: Vec<u16> = Vec::new();
+    let n = usize::from(input.0);
+    let mut is_triangle = vec![false; n * n * n];
+    for [a, b, c] in input.1.iter().map(|t| t.map(usize::from)) {
+        for [p, q, r] in [[a, b, c], [a, c, b], [b, a, c], [b, c, a], [c, a, b], [c, b, a]] {
+            is_triangle[(p * n + q) * n + r] = true;
+        }
+    }
+    let mut seen: Vec<u16> = Vec::new();
+    let mut order: Vec<(u16, Vec<[u16; 3]>)> = Vec::new();
     for &v in fine.1.iter().flatten() {
-        if !order.contains(&v) {
-            order.push(v);
+        if !seen.contains(&v) {
+            seen.push(v);
+            let whole_with_v = |t: &&[u16; 3]| t.contains(&v) && t.iter().all(|u| seen.contains(u));
+            order.push((v, fine.1.iter().filter(whole_with_v).copied().collect()));
         }
     }
     let mut found = Vec::new();
     let mut to = vec![u16::MAX; fine.0.into()];
-    go(input, fine, &triangles, &order, 0, &mut to, &mut found);
+    go(n, &is_triangle, &order, &mut to, &mut found);
     found
 }
 
-fn go(i: &Mesh, fine: &Mesh, set: &BTreeSet<[u16; 3]>, order: &[u16], at: usize, to: &mut Vec<u16>, found: &mut Vec<Vec<u16>>) {
-    let Some(&v) = order.get(at) else {
+/// Tries the vertices of `order`, each of them with the triangles that are whole with it.
+fn go(n: usize, is_triangle: &[bool], order: &[(u16, Vec<[u16; 3]>)], to: &mut Vec<u16>, found: &mut Vec<Vec<u16>>) {
+    let Some(((v, whole), rest)) = order.split_first() else {
         found.push(to.clone());
         return;
     };
-    for x in 0..i.0 {
+    for x in 0..n as u16 {
         if to.contains(&x) {
             continue;
         }
-        to[usize::from(v)] = x;
+        to[usize::from(*v)] = x;
         let fits = |t: &[u16; 3]| {
-            let image = t.map(|v| to[usize::from(v)]);
-            !t.contains(&v) || image.contains(&u16::MAX) || set.contains(&sorted(image))
+            let [p, q, r] = t.map(|v| usize::from(to[usize::from(v)]));
+            is_triangle[(p * n + q) * n + r]
         };
-        if fine.1.iter().all(fits) {
-            go(i, fine, set, order, at + 1, to, found);
+        if whole.iter().all(fits) {
+            go(n, is_triangle, rest, to, found);
         }
-        to[usize::from(v)] = u16::MAX;
+        to[usize::from(*v)] = u16::MAX;
     }
 }

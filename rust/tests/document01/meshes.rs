@@ -16,10 +16,13 @@ fn refused(mesh: &Mesh) -> Refusal {
     refusal
 }
 
-// The corners of a triangle, in no order.
+// The corners of a triangle from the least one on: the same for triangles that agree up to rotation, as document 02 asks since its
+// request 103.
 fn corners(list: &[u16], triangle: usize) -> [u16; 3] {
     let mut corners = [list[3 * triangle], list[3 * triangle + 1], list[3 * triangle + 2]];
-    corners.sort();
+    while corners[0] > corners[1] || corners[0] > corners[2] {
+        corners.rotate_left(1);
+    }
     corners
 }
 

@@ -131,10 +131,10 @@ fn each_number_has_its_own_field() {
     let fine = Answer { refusal: 0, place: 0, vertices: 15, triangles: 16, edges: 30, boundary_edges: 12 };
     assert_eq!(answer_of_split(SAMPLE, ENOUGH), fine);
 
-    // The fin, split, with a triangle at the front whose second corner is kept.
+    // The fin, split, with its triangle (2, 7, 6) at the front and rotated, so that the second corner is kept.
     let Mesh { vertices, mut list } = split_times(fin(), 1);
     list.drain(9..12);
-    list.splice(0..0, [7, 2, 6]);
+    list.splice(0..0, [6, 2, 7]);
     let mesh = (vertices as u64, &list[..]);
     let one = OneAnswer { refusal: 0, place: 0, vertices: 5, triangles: 3, edges: 7, boundary_edges: 6, role: 2 };
     assert_eq!(answer_of_one(mesh, 4, ENOUGH), one);

@@ -4,5 +4,6 @@ mod edge_counts;
 mod figure;
 mod index_read;
 mod index_written;
+mod inside_out;
 #[path = "../document01/shapes.rs"]
 mod shapes;

@@ -25,11 +25,10 @@ covering c =
     c .before .before .before .before .before .before .before .before .before .before .before .before .before
     .before .before .before .before .before .before .before .before .before .before .before
 
--- where nothing is taken
-abbrev refusing : tie.After-enum-told → tie.After-least-role
+-- where no reading is taken
+abbrev refusing : tie.At-match-keys2 → tie.After-least-role
 refusing c =
     c .before .before .before .before .before .before .before .before .before .before .before .before .before
-    .before
 
 -- where a reading is
 abbrev choosing : tie.After-known-told → tie.After-least-role
@@ -166,9 +165,6 @@ least-role-requires c κs =
 enum-known-taken : tie.Need-enum-known-taken
 enum-known-taken c = search needs
 
-enum-told : tie.Need-enum-told
-enum-told c = search needs
-
 same-length : tie.Need-same-length
 same-length c = chosen-kept (refusing c) .other
 
@@ -197,7 +193,7 @@ same-length-9 : tie.Need-same-length-9
 same-length-9 c = chosen-kept (refusing c) .table
 
 returns-2 : tie.Need-returns-2
-returns-2 c = least-none (c .enum-told .given .1) (refusing c .least-role .ensures)
+returns-2 c = least-none (c .match .keys2) (refusing c .least-role .ensures)
 
 mul-ring-table : tie.Need-mul-ring-table
 mul-ring-table c = omega (arith, small c .fourth, start (choosing c) .pre .level .mesh .halves)
@@ -254,7 +250,6 @@ undo-least-spec =
     cover-requires
     least-role-requires
     enum-known-taken
-    enum-told
     same-length
     same-length-2
     same-length-3

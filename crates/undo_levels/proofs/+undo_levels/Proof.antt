@@ -61,10 +61,10 @@ module _ (t : ℕ) where
   passing c = c .before .before .before .before .before .before .before .before .before .before .before
 
   -- where nothing is taken
-  abbrev refusing : lts.After-enum-told (calls t) (given t) levels.Post → lts.After-undo-least (calls t) (given t) levels.Post
+  abbrev refusing : lts.At-match-keys2 (calls t) (given t) levels.Post → lts.After-undo-least (calls t) (given t) levels.Post
   refusing c =
       c .before .before .before .before .before .before .before .before .before .before .before .before .before
-      .before .before .before .before .before .before .before
+      .before .before .before .before .before .before
 
   -- where a reading is
   abbrev taking : lts.After-known-told (calls t) (given t) levels.Post → lts.After-undo-least (calls t) (given t) levels.Post
@@ -192,9 +192,6 @@ module _ (t : ℕ) where
   enum-known-role : lts.Need-enum-known-role (calls t) (given t) levels.Post
   enum-known-role c = search needs
 
-  enum-told : lts.Need-enum-told (calls t) (given t) levels.Post
-  enum-told c = search needs
-
   stop-requires-2 : lts.Need-stop-requires-2 (calls t) (given t) levels.Post
   stop-requires-2 c κs = levels-stop (start (refusing (c .before .before)) .pre .1)
 
@@ -236,8 +233,8 @@ module _ (t : ℕ) where
       let z = c .before .before .before .before .before in
       let v = refusing z in
       let u = c .before .before .stop2 in
-      levels-stopped (start v .pre .1) (passing v .if1 .left)
-      (subst (LevelTried _ _ _ _ _) (z .enum-told .given .1) (v .undo-least .ensures)) (u .ensures .0) (u .ensures .1)
+      levels-stopped (start v .pre .1) (passing v .if1 .left) (v .undo-least .ensures) (z .match .keys2)
+      (u .ensures .0) (u .ensures .1)
 
   sub-undo-levels : lts.Need-sub-undo-levels (calls t) (given t) levels.Post
   sub-undo-levels c = omega (arith, passing (taking c) .if1 .left)
@@ -316,7 +313,6 @@ pub +undo-levels-spec : {M : Type 1} → statement M
     (slice-aggregate-undo-least t)
     (undo-least-requires t)
     (enum-known-role t)
-    (enum-told t)
     (stop-requires-2 t)
     (same-length-3 t)
     (same-length-4 t)

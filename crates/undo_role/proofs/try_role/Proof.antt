@@ -5,10 +5,10 @@ use mathlib.Core.Path.{refl}
 use borrow.Author.Needs.{needs}
 use borrow.Author.Tests.{not-true, not-false}
 use Rattle.undo_role.specs.Buffers.{Buffers, buffers, Rooms}
-use Rattle.undo_role.specs.Tried.{found, none}
+use Rattle.undo_role.specs.Tried.{found, insideOut, none}
 use Rattle.undo_role.proofs.Rooms.{SameLengths, kept-on, rooms-kept}
 use Rattle.undo_role.proofs.Tries.{Picked, findable, unfound, picked, numberable, uncounted, mappable}
-use Rattle.undo_role.proofs.Tries.{unmapped, claimable, unmatched, comparable, unlike, read}
+use Rattle.undo_role.proofs.Tries.{unmapped, claimable, unmatched, comparable, unlike, read, read-inside-out}
 use Rattle.undo_role.proofs.try_role.Statement.{statement}
 use Rattle.undo_role.proofs.try_role.Tie as tie
 
@@ -355,63 +355,102 @@ compare-all-requires c κs =
     comparable (entry₄ t .pre) (tiles (told₂ g)) (g .number-tiles .ensures) (v .map-vertices .ensures)
     (t .map-triangles .ensures) (roomy (entry₄ t) (same₄ t)) (not-false _ (e .if2 .left))
 
+enum-told-3 : tie.Need-enum-told-3
+enum-told-3 c = search needs
+
+enum-known-compared : tie.Need-enum-known-compared
+enum-known-compared c = search needs
+
+enum-told-4 : tie.Need-enum-told-4
+enum-told-4 c = search needs
+
 same-length-23 : tie.Need-same-length-23
-same-length-23 c = same₅ (comparing (c .before)) .marks
+same-length-23 c = same₅ (comparing (c .before .before)) .marks
 
 same-length-24 : tie.Need-same-length-24
-same-length-24 c = same₅ (comparing (c .before)) .coarse
+same-length-24 c = same₅ (comparing (c .before .before)) .coarse
 
 same-length-25 : tie.Need-same-length-25
-same-length-25 c = same₅ (comparing (c .before)) .numbers
+same-length-25 c = same₅ (comparing (c .before .before)) .numbers
 
 same-length-26 : tie.Need-same-length-26
-same-length-26 c = same₅ (comparing (c .before)) .map
+same-length-26 c = same₅ (comparing (c .before .before)) .map
 
 same-length-27 : tie.Need-same-length-27
-same-length-27 c = same₅ (comparing (c .before)) .faces
+same-length-27 c = same₅ (comparing (c .before .before)) .faces
 
 same-length-28 : tie.Need-same-length-28
-same-length-28 c = same₅ (comparing (c .before)) .table
+same-length-28 c = same₅ (comparing (c .before .before)) .table
 
 returns-5 : tie.Need-returns-5
 returns-5 c =
-    let a = comparing (c .before) in
-    let t = matching₅ a in
-    let v = mapping₄ t in
-    let g = numbering₃ v in
-    none
-    (unlike (entry₅ a .pre) (tiles (told₂ g)) (g .number-tiles .ensures) (v .map-vertices .ensures)
-    (t .map-triangles .ensures) (a .compare-all .ensures) (not-true _ (c .if3 .taken)))
-
-same-length-29 : tie.Need-same-length-29
-same-length-29 c = same₅ (comparing (c .before)) .marks
-
-same-length-30 : tie.Need-same-length-30
-same-length-30 c = same₅ (comparing (c .before)) .coarse
-
-same-length-31 : tie.Need-same-length-31
-same-length-31 c = same₅ (comparing (c .before)) .numbers
-
-same-length-32 : tie.Need-same-length-32
-same-length-32 c = same₅ (comparing (c .before)) .map
-
-same-length-33 : tie.Need-same-length-33
-same-length-33 c = same₅ (comparing (c .before)) .faces
-
-same-length-34 : tie.Need-same-length-34
-same-length-34 c = same₅ (comparing (c .before)) .table
-
-returns-6 : tie.Need-returns-6
-returns-6 c =
-    let a = comparing (c .before) in
+    let a = comparing (c .before .before) in
     let t = matching₅ a in
     let v = mapping₄ t in
     let g = numbering₃ v in
     found
     (read (entry₅ a .pre) (tiles (told₂ g)) (g .number-tiles .ensures) (v .map-vertices .ensures)
     (t .map-triangles .ensures) (a .compare-all .ensures) (told₃ v .before .kept .given .1)
-    (not-false _ (mapped t .if1 .left)) (not-false _ (matched a .if2 .left)) (not-false _ (c .if3 .left))
-    (roomy (entry₅ a) {b = buffers₄ t} (same₄ t)))
+    (not-false _ (mapped t .if1 .left)) (not-false _ (matched a .if2 .left))
+    (roomy (entry₅ a) {b = buffers₄ t} (same₄ t)) (c .enum-told3 .given .1))
+
+same-length-29 : tie.Need-same-length-29
+same-length-29 c = same₅ (comparing (c .before .before .before)) .marks
+
+same-length-30 : tie.Need-same-length-30
+same-length-30 c = same₅ (comparing (c .before .before .before)) .coarse
+
+same-length-31 : tie.Need-same-length-31
+same-length-31 c = same₅ (comparing (c .before .before .before)) .numbers
+
+same-length-32 : tie.Need-same-length-32
+same-length-32 c = same₅ (comparing (c .before .before .before)) .map
+
+same-length-33 : tie.Need-same-length-33
+same-length-33 c = same₅ (comparing (c .before .before .before)) .faces
+
+same-length-34 : tie.Need-same-length-34
+same-length-34 c = same₅ (comparing (c .before .before .before)) .table
+
+returns-6 : tie.Need-returns-6
+returns-6 c =
+    let a = comparing (c .before .before .before) in
+    let t = matching₅ a in
+    let v = mapping₄ t in
+    let g = numbering₃ v in
+    insideOut
+    (read-inside-out (entry₅ a .pre) (tiles (told₂ g)) (g .number-tiles .ensures) (v .map-vertices .ensures)
+    (t .map-triangles .ensures) (a .compare-all .ensures) (told₃ v .before .kept .given .1)
+    (not-false _ (mapped t .if1 .left)) (not-false _ (matched a .if2 .left))
+    (roomy (entry₅ a) {b = buffers₄ t} (same₄ t)) (c .before .compared .given .1))
+
+same-length-35 : tie.Need-same-length-35
+same-length-35 c = same₅ (comparing (c .before .before)) .marks
+
+same-length-36 : tie.Need-same-length-36
+same-length-36 c = same₅ (comparing (c .before .before)) .coarse
+
+same-length-37 : tie.Need-same-length-37
+same-length-37 c = same₅ (comparing (c .before .before)) .numbers
+
+same-length-38 : tie.Need-same-length-38
+same-length-38 c = same₅ (comparing (c .before .before)) .map
+
+same-length-39 : tie.Need-same-length-39
+same-length-39 c = same₅ (comparing (c .before .before)) .faces
+
+same-length-40 : tie.Need-same-length-40
+same-length-40 c = same₅ (comparing (c .before .before)) .table
+
+returns-7 : tie.Need-returns-7
+returns-7 c =
+    let a = comparing (c .before .before) in
+    let t = matching₅ a in
+    let v = mapping₄ t in
+    let g = numbering₃ v in
+    none
+    (unlike (entry₅ a .pre) (tiles (told₂ g)) (g .number-tiles .ensures) (v .map-vertices .ensures)
+    (t .map-triangles .ensures) (a .compare-all .ensures) (c .enum-told4 .given .1))
 
 pub try-role-spec : {M : Type 1} → statement M
 try-role-spec =
@@ -452,6 +491,9 @@ try-role-spec =
     same-length-22
     returns-4
     compare-all-requires
+    enum-told-3
+    enum-known-compared
+    enum-told-4
     same-length-23
     same-length-24
     same-length-25
@@ -465,4 +507,11 @@ try-role-spec =
     same-length-32
     same-length-33
     same-length-34
-    returns-6)
+    returns-6
+    same-length-35
+    same-length-36
+    same-length-37
+    same-length-38
+    same-length-39
+    same-length-40
+    returns-7)

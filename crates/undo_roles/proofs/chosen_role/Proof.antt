@@ -53,7 +53,9 @@ same-length-6 c = all c .least-role .kept .1 .1 .1 .1 .1 .1 .1 .1 .1 .1 .1 .0
 returns : tie.Need-returns
 returns c =
     let l = all c in
-    asked-least (l .before .before .before .before .before .before .before .if1 .taken) (l .least-role .ensures)
+    let asked = l .before .before .before .before .before .before .before in
+    let s = asked .before .before .before .before .before .before .before .before .before .before .before in
+    asked-least (s .pre .lent .mesh .proper) (asked .if1 .taken) (l .least-role .ensures)
 
 try-role-requires : tie.Need-try-role-requires
 try-role-requires c κs = asked-triable (entry (other c) .pre) (other c .if1 .left)

@@ -1,6 +1,6 @@
 -- `undo_roles::least_role` meets its contract. The invariant: the next role is at most 4, no role below it has a
--- reading, the roles are lent what they need, and the buffers have kept their lengths. The measure is the number of
--- roles that are left.
+-- reading, the first that has one by the old rule is remembered, the roles are lent what they need, and the buffers
+-- have kept their lengths. The measure is the number of roles that are left.
 use native.Mathlib.Omega.{arith}
 use Prim.Native.Nat.{_-_}
 use mathlib.Core.Path.{refl}
@@ -12,14 +12,14 @@ use Rattle.undo_roles.proofs.least_role.Statement.{statement}
 use Rattle.undo_roles.proofs.least_role.Tie as tie
 
 abbrev Inv-loop : tie.InvT-loop
-Inv-loop vertices triangles list other rows ring marks₀ coarse₀ numbers₀ map₀ faces₀ table₀ role₀ marks
-    coarse numbers map faces table role =
+Inv-loop vertices triangles list other rows ring marks₀ coarse₀ numbers₀ map₀ faces₀ table₀ remembered₀ role₀ marks
+    coarse numbers map faces table remembered role =
     Turn vertices triangles list (buffers other rows ring marks₀ coarse₀ numbers₀ map₀ faces₀ table₀)
-    (buffers other rows ring marks coarse numbers map faces table) role
+    (buffers other rows ring marks coarse numbers map faces table) remembered role
 
 abbrev μ-loop : tie.MeasureT-loop
-μ-loop vertices triangles list other rows ring marks₀ coarse₀ numbers₀ map₀ faces₀ table₀ role₀ marks
-    coarse numbers map faces table role =
+μ-loop vertices triangles list other rows ring marks₀ coarse₀ numbers₀ map₀ faces₀ table₀ remembered₀ role₀ marks
+    coarse numbers map faces table remembered role =
     4 - role
 
 -- ---- from each place to the call and to the turn
@@ -75,9 +75,6 @@ try-role-requires c κs =
 enum-told : tie.Need-enum-told Inv-loop μ-loop
 enum-told c = search needs
 
-enum-told-2 : tie.Need-enum-told-2 Inv-loop μ-loop
-enum-told-2 c = search needs
-
 same-length : tie.Need-same-length Inv-loop μ-loop
 same-length c =
     let t = trying (c .before .before) in
@@ -111,7 +108,10 @@ same-length-6 c =
 returns : tie.Need-returns Inv-loop μ-loop
 returns c =
     let t = trying (c .before .before) in
-    first-least (turn t .before .loop .inv) (c .enum-told2 .given .1) (t .try-role .ensures)
+    first-least (turn t .before .loop .inv) (c .enum-told .given .1) (t .try-role .ensures)
+
+earlier-requires : tie.Need-earlier-requires Inv-loop μ-loop
+earlier-requires c κs = search needs
 
 add-role : tie.Need-add-role Inv-loop μ-loop
 add-role c = omega arith
@@ -122,8 +122,8 @@ loop-less c = omega arith
 loop-again : tie.Need-loop-again Inv-loop μ-loop
 loop-again c =
     let t = trying (c .before .before) in
-    turned (turn t .before .loop .inv) (turn t .loop-test .taken) (call-kept t) (c .enum-told .given .1)
-    (t .try-role .ensures)
+    turned (turn t .before .loop .inv) (turn t .loop-test .taken) (call-kept t) (t .try-role .ensures)
+    (c .before .match .keys2) (c .earlier .ensures)
 
 same-length-7 : tie.Need-same-length-7 Inv-loop μ-loop
 same-length-7 c = c .before .loop .inv .lengths .marks
@@ -155,7 +155,6 @@ least-role-spec =
     loop-holds
     try-role-requires
     enum-told
-    enum-told-2
     same-length
     same-length-2
     same-length-3
@@ -163,6 +162,7 @@ least-role-spec =
     same-length-5
     same-length-6
     returns
+    earlier-requires
     add-role
     loop-less
     loop-again

@@ -1,16 +1,20 @@
 -- `answers::taken::write_reading` meets its contract: where a reading is taken there is room for it, and it is copied.
 use native.Mathlib.Omega.{arith}
 use Prim.Native.Nat.{ℕ, _*_, _≤_}
-use mathlib.Core.Path.{_≡_, sym, ap, subst}
-use mathlib.Core.List.{List, _++_}
+use mathlib.Core.Path.{_≡_, refl, subst}
+use mathlib.Core.Logic.{inl, inr}
+use mathlib.Core.List.{List, [], _∷_, _++_}
 use lib.ListN.{length, take, drop}
 use lib.Seq.{length-take-le}
+use types.Run.{OneOf}
+use denote.Enum.Declared.{tagOf}
 use borrow.Author.Needs.{needs}
 use Rattle.theory.specs.Calls.{Outputs}
 use Rattle.answers.specs.declared.taken.Taken.{Taken}
-use Rattle.answers.specs.declared.taken.Taken.the-variants.{Reading, Nothing}
+use Rattle.answers.specs.declared.taken.Taken.the-variants.{Reading, InsideOut, Nothing}
 use Rattle.answers.specs.Answers.{outputs}
 use Rattle.answers.specs.Taken.{ReadingLent, leftBy}
+use Rattle.answers.proofs.taken.Taken as declared
 use Rattle.answers.proofs.taken.write_reading.Statement.{statement}
 use Rattle.answers.proofs.taken.write_reading.Tie as tie
 
@@ -36,11 +40,13 @@ module _ {N F role M n : ℕ} {found : Taken} {coarse map faces : List ℕ} {out
       let trianglesLong : length (take F faces) ≡ F = length-take-le _ _ (L .facesRoom) in
       rw (e, meshLong, verticesLong, trianglesLong, wroteMesh, wroteVertices, wroteTriangles)
 
--- where nothing is taken, the outputs stay
-untouched : {N F : ℕ} {found : Taken} {coarse map faces : List ℕ} {out : Outputs}
-    → ReadingLent found N F coarse map faces out → found ≡ Nothing → out ≡ leftBy found N F coarse map faces out
-untouched {N} {F} {coarse = coarse} {map} {faces} {out} L e =
-    sym (ap (λ (taken : Taken). leftBy taken N F coarse map faces out) e)
+-- where no reading is taken, the outputs stay
+untouched : (found : Taken) (N F : ℕ) (coarse map faces : List ℕ) (out : Outputs)
+    → OneOf (1 ∷ 2 ∷ []) (tagOf declared.the-type found) → out ≡ leftBy found N F coarse map faces out
+untouched (Reading _ _ _) N F coarse map faces out (inl e) = absurd (omega (arith, e))
+untouched (Reading _ _ _) N F coarse map faces out (inr e) = absurd (omega (arith, e))
+untouched (InsideOut _) N F coarse map faces out _ = refl
+untouched Nothing N F coarse map faces out _ = refl
 
 -- the function's start
 abbrev entry : tie.After-known-told → tie.Start
@@ -49,13 +55,11 @@ entry c = c .before .before .before .before .before .before .before .before .bef
 enum-known-taken : tie.Need-enum-known-taken
 enum-known-taken c = search needs
 
-enum-told : tie.Need-enum-told
-enum-told c = search needs
-
 returns : tie.Need-returns
 returns c =
-    let s = c .before .before .before .before .before .before .before .before in
-    untouched (s .pre) (c .enum-told .given .1)
+    let s = c .before .before .before .before .before .before .before in
+    untouched (s .args .taken) (s .args .vertices) (s .args .triangles) (s .args .coarse .now) (s .args .map .now)
+    (s .args .faces .now) _ (c .match .keys2)
 
 mul-copy : tie.Need-mul-copy
 mul-copy c =
@@ -96,7 +100,6 @@ write-reading-spec =
     tie.close
     (tie.spec
     enum-known-taken
-    enum-told
     returns
     mul-copy
     copy-requires
