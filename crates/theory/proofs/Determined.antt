@@ -4,7 +4,7 @@
 use Prim.Native.Nat.{ℕ, zero, suc, _*_, _≤_}
 use native.Mathlib.Omega.{arith}
 use mathlib.Core.Path.{_≡_, refl, sym, ap, ap₂, _∙_, subst, subst₂}
-use mathlib.Core.List.{List, [], _∷_}
+use mathlib.Core.List.{List, _∷_}
 use lib.ListN.{length}
 use Rattle.theory.specs.Mesh.{triangles, Rotated, Proper}
 use Rattle.theory.specs.Reading.{Agreement, Reading, IsReading, RoleOf, ReadingIn, Returned}

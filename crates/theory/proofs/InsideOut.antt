@@ -7,7 +7,7 @@ use mathlib.Core.List.{List}
 use Rattle.theory.specs.Limits.{anyRole}
 use Rattle.theory.specs.Mesh.{Same, Rotated, Proper}
 use Rattle.theory.specs.Reading.{Agreement, Centre, ReadingIn}
-use Rattle.theory.specs.Choice.{NoRole, Chosen, NoneChosen}
+use Rattle.theory.specs.Choice.{Chosen, NoneChosen}
 use Rattle.theory.specs.Refusals.{InsideOut, LeastPlace}
 use Rattle.theory.proofs.Finite.{first-below}
 use Rattle.theory.proofs.Lawful.{Lawful, same-lawful}

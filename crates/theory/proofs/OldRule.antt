@@ -1,16 +1,15 @@
 -- The old rule of a reading, "the same three vertices", beside the rule, "up to rotation of corners" (#103): a role has
 -- a reading exactly if it has one by the old rule whose returned one agrees everywhere. So where a role has one by the
 -- old rule alone there is a place for 15, and only one.
-use Prim.Native.Nat.{ℕ, zero, suc, _≤_, _<_}
+use Prim.Native.Nat.{ℕ, zero, suc, _<_}
 use native.Mathlib.Omega.{arith}
 use mathlib.Core.Path.{_≡_, refl, subst}
 use mathlib.Core.Logic.{_⊎_, inl, inr, _↔_}
 use mathlib.Core.List.{List}
-use Rattle.theory.specs.Limits.{anyRole}
 use Rattle.theory.specs.Mesh.{at, triangles, Same, Rotated, Proper}
 use Rattle.theory.specs.Splitting.{split}
 use Rattle.theory.specs.Reading.{Agreement, renamed, Reading, ReadingIn, Disagrees, Returned}
-use Rattle.theory.specs.Choice.{LeastRole, NoRole, Chosen, NoneChosen}
+use Rattle.theory.specs.Choice.{NoRole, Chosen, NoneChosen}
 use Rattle.theory.specs.Refusals.{InsideOut, readingRules, LeastPlace, Passed, Refused}
 use Rattle.theory.proofs.Finite.{below-last, first-below}
 use Rattle.theory.proofs.Decide.{rotated?}
@@ -163,27 +162,26 @@ module _ {N : ℕ} {T : List ℕ} (P : Proper N T) where
           at-least : (k : ℕ) × LeastPlace (Disagrees Rotated T r) k → (k : ℕ) × LeastPlace (InsideOut N T asked) k
           at-least (k, least) = (k, inside-out-at none c R least)
 
-  -- so where 15 is nowhere given though none is chosen, none is by the old rule
-  pub none-old : {asked : ℕ} → asked ≤ anyRole → NoneChosen Rotated N T asked
-      → ((k : ℕ) → InsideOut N T asked k → ⊥) → NoneChosen Same N T asked
-  none-old {asked} _ (NoneChosen.named l none) never = NoneChosen.named l (λ S. refuted (Chosen.named l S))
+  -- so where 15 is nowhere given though none is chosen, none is by the old rule either
+  never-inside-out : {asked role : ℕ} → NoneChosen Rotated N T asked → ((k : ℕ) → InsideOut N T asked k → ⊥)
+      → Chosen Same N T asked role → ⊥
+  never-inside-out {asked} none never c = go (inside-out none c)
     where
-      refuted : Chosen Same N T asked asked → ⊥
-      refuted c = go (inside-out (NoneChosen.named l none) c)
-        where
-          go : (k : ℕ) × LeastPlace (InsideOut N T asked) k → ⊥
-          go (k, least) = never k (least .here)
-  none-old _ (NoneChosen.least none) never =
+      go : (k : ℕ) × LeastPlace (InsideOut N T asked) k → ⊥
+      go (k, least) = never k (least .here)
+
+  pub none-old : {asked : ℕ} → NoneChosen Rotated N T asked → ((k : ℕ) → InsideOut N T asked k → ⊥)
+      → NoneChosen Same N T asked
+  none-old (NoneChosen.named l none) never =
+      NoneChosen.named l (λ S. never-inside-out (NoneChosen.named l none) never (Chosen.named l S))
+  none-old (NoneChosen.least none) never =
       NoneChosen.least (record { none = λ role. nowhere (suc role) role (omega arith) })
     where
       -- a role before which none has a reading by the old rule has none, being the least otherwise
       refuted : (role : ℕ) → ((earlier : ℕ) → earlier < role → ReadingIn Same N T earlier → ⊥)
           → ReadingIn Same N T role → ⊥
       refuted role before S =
-          go (inside-out (NoneChosen.least none) (Chosen.least (record { has = S; before = before })))
-        where
-          go : (k : ℕ) × LeastPlace (InsideOut N T anyRole) k → ⊥
-          go (k, least) = never k (least .here)
+          never-inside-out (NoneChosen.least none) never (Chosen.least (record { has = S; before = before }))
 
       nowhere : (n role : ℕ) → role < n → ReadingIn Same N T role → ⊥
       nowhere zero = λ role l. absurd (omega arith)

@@ -6,7 +6,7 @@ use native.Mathlib.Omega.{arith}
 use native.Mathlib.Decide.{ℕ-discrete}
 use mathlib.Core.Path.{_≡_, refl, sym, ap, ap₂, _∙_, subst, subst₂}
 use mathlib.Core.Logic.{inl, inr}
-use mathlib.Core.List.{List, [], _∷_, _++_, map}
+use mathlib.Core.List.{List, _∷_, _++_, map}
 use lib.ListN.{length, take, drop, replicate}
 use lib.Seq.{take-at, take-take}
 use Rattle.theory.specs.Limits.{mostTriangles, mostSplitTriangles, anyRole, mostLevels}
@@ -223,7 +223,7 @@ one-refused N T asked rooms n p W enough l refused =
   where
     go : Refused (readingRules N T asked) n p → ReadingRefused N T asked n p
     go (inl r) = fifteen (r .0) (r .1 .here)
-    go (inr (never, inl r)) = eleven (r .0) (none-old (W .proper) l (r .1 .here .0) never)
+    go (inr (never, inl r)) = eleven (r .0) (none-old (W .proper) (r .1 .here .0) never)
     go (inr (never, inr r)) = absurd (r .1)
 
 -- where undo one refuses nothing, the mesh is proper and within its limits

@@ -3,17 +3,15 @@
 use Prim.Native.Nat.{ℕ, _*_, _%_, _≤_}
 use native.Mathlib.Omega.{arith}
 use mathlib.Core.Path.{_≡_}
-use mathlib.Core.Logic.{_≢_, inl, inr}
-use mathlib.Core.List.{List, [], _∷_}
+use mathlib.Core.Logic.{_≢_}
+use mathlib.Core.List.{List}
 use lib.ListN.{length, take, length-take}
-use types.Run.{OneOf}
-use denote.Enum.Declared.{tagOf}
 use Rattle.theory.proofs.Finite.{match-size}
 use Rattle.theory.proofs.Determined.{quarter, role-within}
 use Rattle.theory.proofs.OldRule.{no-role-by-old}
 use Rattle.answers.specs.declared.taken.Taken.{Taken}
 use Rattle.answers.specs.declared.taken.Taken.the-variants as taken
-use Rattle.answers.proofs.taken.Taken as declared
+use Rattle.answers.proofs.Arms.{OtherArm, not-reading}
 use Rattle.mesh_rings.specs.Making.{RingLent}
 use Rattle.undo_cover.specs.Cover.{CoverLent, CoverMade}
 use Rattle.undo_role.specs.Buffers.{Buffers, Rooms}
@@ -51,12 +49,11 @@ module _ {N F : ℕ} {T coarse map faces : List ℕ} where
   least-found (leastFound l R) = record { least = l; map = map; faces = faces; returned = R }
 
   -- where none is, no role has a reading, so that nothing is taken of the level
-  pub least-none : {ring : List ℕ} {answer : Taken} → OneOf (1 ∷ 2 ∷ []) (tagOf declared.the-type answer)
-      → LeastTried N F T coarse map faces answer → LevelTried N F T coarse ring taken.Nothing
-  least-none (inl e) (leastFound _ _) = absurd (omega (arith, e))
-  least-none (inr e) (leastFound _ _) = absurd (omega (arith, e))
-  least-none _ (leastInsideOut refuted _ _) = none refuted
-  least-none _ (leastNone refuted) = none (no-role-by-old refuted)
+  pub least-none : {ring : List ℕ} {answer : Taken} → LeastTried N F T coarse map faces answer → OtherArm answer
+      → LevelTried N F T coarse ring taken.Nothing
+  least-none (leastFound _ _) o = not-reading o
+  least-none (leastInsideOut refuted _ _) _ = none refuted
+  least-none (leastNone refuted) _ = none (no-role-by-old refuted)
 
 module _ {N F : ℕ} {T : List ℕ} {b : Buffers} (L : LevelLent N F T b) where
   -- what `cover` is lent

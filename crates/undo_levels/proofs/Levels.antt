@@ -4,11 +4,9 @@ use Prim.Native.Nat.{ℕ, suc, _+_, _-_, _*_, _≤_, _<_}
 use native.Mathlib.Omega.{arith}
 use native.Mathlib.Numerals.{add-one}
 use mathlib.Core.Path.{_≡_, refl, sym, ap, subst, subst₂, _∙_}
-use mathlib.Core.Logic.{_≢_, inl, inr}
+use mathlib.Core.Logic.{_≢_}
 use mathlib.Core.List.{List, [], _∷_, _++_}
 use lib.ListN.{length, take, drop}
-use types.Run.{OneOf}
-use denote.Enum.Declared.{tagOf}
 use Rattle.theory.specs.Limits.{mostLevels}
 use Rattle.theory.specs.Mesh.{Rotated}
 use Rattle.theory.specs.Splitting.{firstOn}
@@ -16,7 +14,7 @@ use Rattle.theory.specs.Choice.{NoRole, Several, reached, stopped, undone}
 use Rattle.theory.proofs.Results.{several-at-most}
 use Rattle.answers.specs.declared.taken.Taken.{Taken}
 use Rattle.answers.specs.declared.taken.Taken.the-variants as taken
-use Rattle.answers.proofs.taken.Taken as declared
+use Rattle.answers.proofs.Arms.{OtherArm, not-reading}
 use Rattle.answers.specs.declared.counts.Counts.{Counts}
 use Rattle.answers.specs.declared.levels.Levels.{Levels}
 use Rattle.answers.specs.Counts.{countsOf, coarseCounts}
@@ -45,9 +43,8 @@ tried-rings (found C R) = R
 
 -- where none is, no role has a reading
 tried-none : {N F : ℕ} {T coarse ring : List ℕ} {answer : Taken} → LevelTried N F T coarse ring answer
-    → OneOf (1 ∷ 2 ∷ []) (tagOf declared.the-type answer) → NoRole Rotated N T
-tried-none (found _ _) (inl e) = absurd (omega (arith, e))
-tried-none (found _ _) (inr e) = absurd (omega (arith, e))
+    → OtherArm answer → NoRole Rotated N T
+tried-none (found _ _) o = not-reading o
 tried-none (none no-role) _ = no-role
 
 -- ---- one level more
@@ -136,8 +133,8 @@ module _ {allowance : ℕ} {counts : Counts} {list out : List ℕ} {b : Buffers}
 
   -- no role has a reading
   pub levels-stopped : {coarse′ ring′ out′ : List ℕ} {tried : Taken} {answer : Levels} → allowance ≢ 0
-      → LevelTried N F T coarse′ ring′ tried → OneOf (1 ∷ 2 ∷ []) (tagOf declared.the-type tried)
-      → answer ≡ noLevel counts → out′ ≡ T ++ drop (3 * F) out → LevelsUndone allowance N T out out′ answer
+      → LevelTried N F T coarse′ ring′ tried → OtherArm tried → answer ≡ noLevel counts
+      → out′ ≡ T ++ drop (3 * F) out → LevelsUndone allowance N T out out′ answer
   levels-stopped more level refused =
       let one-up : allowance ≡ suc (allowance - 1) = omega arith in
       levels-left (rw one-up (stopped (tried-none level refused)))

@@ -3,10 +3,8 @@
 use Prim.Native.Nat.{ℕ, _+_, _≤_, _<_}
 use native.Mathlib.Omega.{arith}
 use mathlib.Core.Path.{_≡_, refl, sym, subst}
-use mathlib.Core.Logic.{_≢_, inl, inr}
-use mathlib.Core.List.{List, [], _∷_}
-use types.Run.{OneOf}
-use denote.Enum.Declared.{tagOf}
+use mathlib.Core.Logic.{_≢_}
+use mathlib.Core.List.{List}
 use Rattle.theory.specs.Limits.{anyRole}
 use Rattle.theory.specs.Mesh.{Same, Rotated, Proper}
 use Rattle.theory.specs.Reading.{Agreement, ReadingIn}
@@ -18,7 +16,7 @@ use Rattle.theory.proofs.OldRule.{old-returned, inside-out-at}
 use Rattle.lists.proofs.Lists.{by-lt}
 use Rattle.answers.specs.declared.taken.Taken.{Taken}
 use Rattle.answers.specs.declared.taken.Taken.the-variants as taken
-use Rattle.answers.proofs.taken.Taken as declared
+use Rattle.answers.proofs.Arms.{OtherArm, not-reading}
 use Rattle.undo_role.specs.Buffers.{Buffers, buffers}
 use Rattle.undo_role.specs.Tried.{RolesLent, RoleLent, OldOnly, TriedRole}
 use Rattle.undo_role.specs.Tried.{found as roleFound, insideOut as roleInsideOut, none as roleNone}
@@ -52,20 +50,17 @@ before-next {role = role} before refuted earlier l R =
 
 -- a role in which no reading is taken has none
 tried-none : {role N F : ℕ} {T coarse map faces : List ℕ} {answer : Taken} → Proper N T
-    → TriedRole role N F T coarse map faces answer → OneOf (1 ∷ 2 ∷ []) (tagOf declared.the-type answer)
-    → ReadingIn Rotated N T role → ⊥
-tried-none P (roleFound _) (inl e) = absurd (omega (arith, e))
-tried-none P (roleFound _) (inr e) = absurd (omega (arith, e))
+    → TriedRole role N F T coarse map faces answer → OtherArm answer → ReadingIn Rotated N T role → ⊥
+tried-none P (roleFound _) o = not-reading o
 tried-none P (roleInsideOut O) _ = old-only-none P O
 tried-none P (roleNone refuted) _ = λ R. refuted (readingIn-same rotated-implies R)
 
 -- and what is remembered with it is what is remembered of the roles below the next
 remembered-next : {role N F : ℕ} {T coarse map faces : List ℕ} {remembered answer : Taken}
-    → Remembered N T role remembered → TriedRole role N F T coarse map faces answer
-    → OneOf (1 ∷ 2 ∷ []) (tagOf declared.the-type answer) → Remembered N T (role + 1) (earlierOf remembered answer)
+    → Remembered N T role remembered → TriedRole role N F T coarse map faces answer → OtherArm answer
+    → Remembered N T (role + 1) (earlierOf remembered answer)
 remembered-next (old L O) _ _ = old L O
-remembered-next (nothing before) (roleFound _) (inl e) = absurd (omega (arith, e))
-remembered-next (nothing before) (roleFound _) (inr e) = absurd (omega (arith, e))
+remembered-next (nothing before) (roleFound _) o = not-reading o
 remembered-next (nothing before) (roleInsideOut O) _ =
     old (record { has = returned-in (O .returned); before = before }) O
 remembered-next (nothing before) (roleNone refuted) _ = nothing (before-next before refuted)
@@ -99,50 +94,49 @@ begun L = record {
   };
 }
 
-module _ {N F : ℕ} {T : List ℕ} {b₀ b : Buffers} {remembered : Taken} {role : ℕ} (I : Turn N F T b₀ b remembered role)
-  where
-    -- what `try_role` is lent
-    pub triable : role < 4 → RoleLent role N F T b
-    triable l = record { isRole = omega arith; lent = I .lent }
+module _ {N F : ℕ} {T : List ℕ} {b₀ b : Buffers} {remembered : Taken} {role : ℕ}
+    (I : Turn N F T b₀ b remembered role) where
+  -- what `try_role` is lent
+  pub triable : role < 4 → RoleLent role N F T b
+  triable l = record { isRole = omega arith; lent = I .lent }
 
-    -- one turn, in a role that has no reading
-    pub turned : {marks coarse numbers map faces table : List ℕ} {answer with-it : Taken} → role < 4
-        → SameLengths b (buffers (b .other) (b .rows) (b .ring) marks coarse numbers map faces table)
-        → TriedRole role N F T coarse map faces answer → OneOf (1 ∷ 2 ∷ []) (tagOf declared.the-type answer)
-        → with-it ≡ earlierOf remembered answer
-        → Turn N F T b₀ (buffers (b .other) (b .rows) (b .ring) marks coarse numbers map faces table) with-it (role + 1)
-    turned l K t n e = record {
-      isNext = omega arith;
-      before = before-next (I .before) (tried-none (I .lent .mesh .proper) t n);
-      memory = subst (Remembered N T (role + 1)) (sym e) (remembered-next (I .memory) t n);
-      lent = record { mesh = I .lent .mesh; made = I .lent .made; rooms = rooms-kept (omega arith) (I .lent .rooms) K };
-      lengths = kept-on (I .lengths) K;
-    }
+  -- one turn, in a role that has no reading
+  pub turned : {marks coarse numbers map faces table : List ℕ} {answer with-it : Taken} → role < 4
+      → SameLengths b (buffers (b .other) (b .rows) (b .ring) marks coarse numbers map faces table)
+      → TriedRole role N F T coarse map faces answer → OtherArm answer → with-it ≡ earlierOf remembered answer
+      → Turn N F T b₀ (buffers (b .other) (b .rows) (b .ring) marks coarse numbers map faces table) with-it (role + 1)
+  turned l K t n e = record {
+    isNext = omega arith;
+    before = before-next (I .before) (tried-none (I .lent .mesh .proper) t n);
+    memory = subst (Remembered N T (role + 1)) (sym e) (remembered-next (I .memory) t n);
+    lent = record { mesh = I .lent .mesh; made = I .lent .made; rooms = rooms-kept (omega arith) (I .lent .rooms) K };
+    lengths = kept-on (I .lengths) K;
+  }
 
-    -- the first role that has a reading is the least
-    found-least : {coarse map faces : List ℕ} {first M n : ℕ}
-        → TriedRole role N F T coarse map faces (taken.Reading first M n)
-        → LeastTried N F T coarse map faces (taken.Reading first M n)
-    found-least (roleFound R) = found (record { has = returned-in R; before = I .before }) R
+  -- the first role that has a reading is the least
+  found-least : {coarse map faces : List ℕ} {first M n : ℕ}
+      → TriedRole role N F T coarse map faces (taken.Reading first M n)
+      → LeastTried N F T coarse map faces (taken.Reading first M n)
+  found-least (roleFound R) = found (record { has = returned-in R; before = I .before }) R
 
-    -- so what is taken there is taken
-    pub first-least : {coarse map faces : List ℕ} {answer : Taken} {first M n : ℕ} → answer ≡ taken.Reading first M n
-        → TriedRole role N F T coarse map faces answer → LeastTried N F T coarse map faces answer
-    first-least e t = subst (LeastTried N F T _ _ _) (sym e) (found-least (subst (TriedRole role N F T _ _ _) e t))
+  -- so what is taken there is taken
+  pub first-least : {coarse map faces : List ℕ} {answer : Taken} {first M n : ℕ} → answer ≡ taken.Reading first M n
+      → TriedRole role N F T coarse map faces answer → LeastTried N F T coarse map faces answer
+  first-least e t = subst (LeastTried N F T _ _ _) (sym e) (found-least (subst (TriedRole role N F T _ _ _) e t))
 
-    -- no role has a reading that none below 4 has
-    all-tried : {agree : Agreement} → 4 ≤ role → ((earlier : ℕ) → earlier < role → ReadingIn agree N T earlier → ⊥)
-        → NoRole agree N T
-    all-tried l before = record { none = λ tried R. before tried (omega (arith, role-within (R .inRole))) R }
+  -- no role has a reading that none below 4 has
+  all-tried : {agree : Agreement} → 4 ≤ role → ((earlier : ℕ) → earlier < role → ReadingIn agree N T earlier → ⊥)
+      → NoRole agree N T
+  all-tried l before = record { none = λ tried R. before tried (omega (arith, role-within (R .inRole))) R }
 
-    -- so after the last turn what is remembered is what the roles come to
-    pub no-role : 4 ≤ role → {coarse map faces : List ℕ} → LeastTried N F T coarse map faces remembered
-    no-role l = go (I .memory)
-      where
-        go : {answer : Taken} {coarse map faces : List ℕ} → Remembered N T role answer
-            → LeastTried N F T coarse map faces answer
-        go (nothing before) = none (all-tried l before)
-        go (old L O) = insideOut (all-tried l (I .before)) L O
+  -- so after the last turn what is remembered is what the roles come to
+  pub no-role : 4 ≤ role → {coarse map faces : List ℕ} → LeastTried N F T coarse map faces remembered
+  no-role l = go (I .memory)
+    where
+      go : {answer : Taken} {coarse map faces : List ℕ} → Remembered N T role answer
+          → LeastTried N F T coarse map faces answer
+      go (nothing before) = none (all-tried l before)
+      go (old L O) = insideOut (all-tried l (I .before)) L O
 
 -- ---- the role that is asked for
 

@@ -193,7 +193,7 @@ same-length-9 : tie.Need-same-length-9
 same-length-9 c = chosen-kept (refusing c) .table
 
 returns-2 : tie.Need-returns-2
-returns-2 c = least-none (c .match .keys2) (refusing c .least-role .ensures)
+returns-2 c = least-none (refusing c .least-role .ensures) (c .match .keys2)
 
 mul-ring-table : tie.Need-mul-ring-table
 mul-ring-table c = omega (arith, small c .fourth, start (choosing c) .pre .level .mesh .halves)

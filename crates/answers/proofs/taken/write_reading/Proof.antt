@@ -2,19 +2,16 @@
 use native.Mathlib.Omega.{arith}
 use Prim.Native.Nat.{ℕ, _*_, _≤_}
 use mathlib.Core.Path.{_≡_, refl, subst}
-use mathlib.Core.Logic.{inl, inr}
-use mathlib.Core.List.{List, [], _∷_, _++_}
+use mathlib.Core.List.{List, _++_}
 use lib.ListN.{length, take, drop}
 use lib.Seq.{length-take-le}
-use types.Run.{OneOf}
-use denote.Enum.Declared.{tagOf}
 use borrow.Author.Needs.{needs}
 use Rattle.theory.specs.Calls.{Outputs}
 use Rattle.answers.specs.declared.taken.Taken.{Taken}
 use Rattle.answers.specs.declared.taken.Taken.the-variants.{Reading, InsideOut, Nothing}
 use Rattle.answers.specs.Answers.{outputs}
 use Rattle.answers.specs.Taken.{ReadingLent, leftBy}
-use Rattle.answers.proofs.taken.Taken as declared
+use Rattle.answers.proofs.Arms.{OtherArm, not-reading}
 use Rattle.answers.proofs.taken.write_reading.Statement.{statement}
 use Rattle.answers.proofs.taken.write_reading.Tie as tie
 
@@ -41,10 +38,9 @@ module _ {N F role M n : ℕ} {found : Taken} {coarse map faces : List ℕ} {out
       rw (e, meshLong, verticesLong, trianglesLong, wroteMesh, wroteVertices, wroteTriangles)
 
 -- where no reading is taken, the outputs stay
-untouched : (found : Taken) (N F : ℕ) (coarse map faces : List ℕ) (out : Outputs)
-    → OneOf (1 ∷ 2 ∷ []) (tagOf declared.the-type found) → out ≡ leftBy found N F coarse map faces out
-untouched (Reading _ _ _) N F coarse map faces out (inl e) = absurd (omega (arith, e))
-untouched (Reading _ _ _) N F coarse map faces out (inr e) = absurd (omega (arith, e))
+untouched : (found : Taken) (N F : ℕ) (coarse map faces : List ℕ) (out : Outputs) → OtherArm found
+    → out ≡ leftBy found N F coarse map faces out
+untouched (Reading _ _ _) N F coarse map faces out o = not-reading o
 untouched (InsideOut _) N F coarse map faces out _ = refl
 untouched Nothing N F coarse map faces out _ = refl
 
