@@ -1,16 +1,19 @@
 -- How triangles compare: one by its three vertices, and the triangles up to one by those before it and that one.
-use Prim.Native.Nat.{ℕ, _+_, _*_, _≤_}
+use Prim.Native.Nat.{ℕ, _+_, _*_, _≤_, _<_, min}
 use native.Mathlib.Omega.{arith}
+use mathlib.Core.Path.{_≡_, refl}
+use mathlib.Core.Logic.{_≢_}
 use mathlib.Core.List.{List}
 use lib.ListN.{length}
 use borrow.Author.Count.{below-more}
-use Rattle.theory.specs.Mesh.{at}
+use Rattle.theory.specs.Mesh.{at, Same, Rotated}
 use Rattle.theory.specs.Reading.{renamed}
 use Rattle.theory.proofs.Rotation.{rotated-implies}
-use Rattle.undo_match.specs.Compared.{Compared, agree, insideOut, differ, withOne, ComparedOne, ComparedThree}
-use Rattle.undo_match.specs.declared.compare.Comparison.{Comparison}
+use Rattle.undo_match.specs.Compared.{AllAgree, Compared, agree, insideOut, turnedWith}
+use Rattle.undo_match.specs.Compared.{ComparedOne, ComparedThree}
 use Rattle.undo_match.specs.declared.compare.Comparison.the-variants as comparison
 use Rattle.undo_match.specs.declared.compare.Turning.{Turning}
+use Rattle.undo_match.specs.declared.compare.Turning.the-variants as turning
 use Rattle.undo_match.proofs.Threes.{AtCorners, three-same, same-three, three-rotated, rotated-three}
 
 -- ---- one triangle
@@ -26,21 +29,57 @@ module _ (T S : List ℕ) (k t : ℕ) (l : 3 * k + 3 ≤ length T) (m : 3 * t + 
 
 -- ---- all triangles
 
-module _ {T f g S : List ℕ} where
-  -- one of other vertices is one among more
-  pub differ-more : {k F : ℕ} → k ≤ F → Compared k T f g S comparison.Differ → Compared F T f g S comparison.Differ
-  differ-more l (differ n) = differ (λ all. n (λ j b. all j (omega arith)))
+-- The least of the triangles before k that is no rotation of its own is `turned`, or this is F, where each is one.
+pub data LeastTurned (F k : ℕ) (T f g S : List ℕ) : ℕ → Type 0 where
+  none : AllAgree Rotated k T f g S → LeastTurned F k T f g S F
+  first : {j : ℕ} → j < k → (Rotated (renamed f T) j S (at g j) → ⊥) → AllAgree Rotated j T f g S
+      → LeastTurned F k T f g S j
 
-  -- the triangles before k and triangle k tell how those up to it compare
-  pub compared-more : {k : ℕ} {before : Comparison} {turning : Turning} → Compared k T f g S before
-      → ComparedOne (renamed f T) k S (at g k) turning → Compared (k + 1) T f g S (withOne before k turning)
-  compared-more (agree all) (ComparedOne.rotated r) = agree (below-more _ _ all r)
-  compared-more {k} (agree all) (ComparedOne.reversed s n) =
-      insideOut {k = k} (below-more _ _ (λ j b. rotated-implies .same (all j b)) s) (omega arith) n all
-  compared-more (insideOut {k = j} all l n first) (ComparedOne.rotated r) =
-      insideOut {k = j} (below-more _ _ all (rotated-implies .same r)) (omega arith) n first
-  compared-more (insideOut {k = j} all l n first) (ComparedOne.reversed s m) =
-      insideOut {k = j} (below-more _ _ all s) (omega arith) n first
-  compared-more (differ n) (ComparedOne.rotated r) = differ-more (omega arith) (differ n)
-  compared-more (differ n) (ComparedOne.reversed s m) = differ-more (omega arith) (differ n)
-  compared-more C (ComparedOne.other m) = differ (λ all. m (all _ (omega arith)))
+-- The triangles before k have the vertices of their own, and the least that is no rotation is known.
+pub record SameBefore (F k : ℕ) (T f g S : List ℕ) (turned : ℕ) : Type 0 where
+  pub same : AllAgree Same k T f g S
+  pub least : LeastTurned F k T f g S turned
+
+-- A triangle that compares so has the vertices of its own.
+abbrev pub Alike : Turning → Type 0
+Alike turning.Rotated = Unit {0}
+Alike turning.Reversed = Unit {0}
+Alike turning.Other = ⊥
+
+module _ {F k : ℕ} {T f g S : List ℕ} {turned : ℕ} (B : SameBefore F k T f g S turned) where
+  -- where triangle k has the vertices of its own, the triangles up to it have
+  pub same-more : {how : Turning} → k < F → ComparedOne (renamed f T) k S (at g k) how → Alike how
+      → SameBefore F (k + 1) T f g S (turnedWith turned k how)
+  same-more l C o = record { same = below-more _ _ (B .same) (same C o); least = least C o (B .least) }
+    where
+      same : {how : Turning} → ComparedOne (renamed f T) k S (at g k) how → Alike how → Same (renamed f T) k S (at g k)
+      same (ComparedOne.rotated r) _ = rotated-implies .same r
+      same (ComparedOne.reversed s _) _ = s
+      same (ComparedOne.other _) o = absurd o
+
+      least : {how : Turning} {before : ℕ} → ComparedOne (renamed f T) k S (at g k) how → Alike how
+          → LeastTurned F k T f g S before → LeastTurned F (k + 1) T f g S (turnedWith before k how)
+      least (ComparedOne.rotated r) _ (none all) = none (below-more _ _ all r)
+      least (ComparedOne.rotated r) _ (first {j} b n all) = first {j = j} (omega arith) n all
+      least (ComparedOne.reversed _ m) _ (none all) =
+          let this : min F k ≡ k = omega arith in rw this (first {j = k} (omega arith) m all)
+      least (ComparedOne.reversed _ _) _ (first {j} b n all) =
+          let stays : min j k ≡ j = omega arith in rw stays (first {j = j} (omega arith) n all)
+      least (ComparedOne.other _) o _ = absurd o
+
+module _ {F : ℕ} {T f g S : List ℕ} {turned : ℕ} (B : SameBefore F F T f g S turned) where
+  -- where none of all is turned, they agree
+  pub none-turned : turned ≡ F → Compared F T f g S comparison.Agree
+  none-turned e = go (B .least) e
+    where
+      go : {j : ℕ} → LeastTurned F F T f g S j → j ≡ F → Compared F T f g S comparison.Agree
+      go (none all) _ = agree all
+      go (first b _ _) e = absurd (omega (arith, e))
+
+  -- and else the least is the one to be named
+  pub one-turned : turned ≢ F → Compared F T f g S (comparison.InsideOut turned)
+  one-turned n = go (B .least) n
+    where
+      go : {j : ℕ} → LeastTurned F F T f g S j → j ≢ F → Compared F T f g S (comparison.InsideOut j)
+      go (none _) n = absurd (n refl)
+      go (first {j} b n before) _ = insideOut {k = j} (B .same) b n before

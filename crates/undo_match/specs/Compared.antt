@@ -1,6 +1,6 @@
 -- The comparison of triangles: what `compare` says of all of them, `compare_one` of one, `compare_three` of three
 -- vertices and three others, and `same_vertices` of these as sets, which `ordered` puts in order.
-use Prim.Native.Nat.{ℕ, _+_, _*_, _/_, _≤_, _<_}
+use Prim.Native.Nat.{ℕ, _+_, _*_, _/_, _≤_, _<_, min}
 use mathlib.Core.Path.{_≡_}
 use mathlib.Core.Logic.{_≢_}
 use mathlib.Core.List.{List}
@@ -41,13 +41,11 @@ pub data Compared (F : ℕ) (list vertexMap triangleMap splitting : List ℕ) : 
   differ : (AllAgree Same F list vertexMap triangleMap splitting → ⊥)
       → Compared F list vertexMap triangleMap splitting comparison.Differ
 
--- What triangles before triangle k compare as, with triangle k: the first that is the other way round is named.
-abbrev pub withOne : Comparison → ℕ → Turning → Comparison
-withOne before k turning.Rotated = before
-withOne comparison.Agree k turning.Reversed = comparison.InsideOut k
-withOne (comparison.InsideOut j) k turning.Reversed = comparison.InsideOut j
-withOne comparison.Differ k turning.Reversed = comparison.Differ
-withOne before k turning.Other = comparison.Differ
+-- The least triangle that is the other way round: the one before triangle k, if it is less, or triangle k, if it is so.
+abbrev pub turnedWith : (turned k : ℕ) → Turning → ℕ
+turnedWith turned k turning.Rotated = turned
+turnedWith turned k turning.Reversed = min turned k
+turnedWith turned k turning.Other = turned
 
 -- ---- one triangle
 

@@ -1,11 +1,11 @@
 // The comparison of every input triangle, under the maps, with its triangle of the splitting.
 use lists::at;
+use lists::lesser;
 ghost use Prim.Native.Nat.{_≤_};
 ghost use mathlib.Core.Path.{_≡_};
 ghost use Rattle.theory.specs.Reading.{renamed};
 ghost use Rattle.lists.specs.Decides.{Decides};
-ghost use Rattle.undo_match.specs.declared.compare.Turning.the-variants as turning;
-ghost use Rattle.undo_match.specs.Compared.{CompareLent, Compared, withOne, OneLent, ComparedOne};
+ghost use Rattle.undo_match.specs.Compared.{CompareLent, Compared, turnedWith, OneLent, ComparedOne};
 ghost use Rattle.undo_match.specs.Compared.{Apart, ComparedThree, RotatedThree, SameThree, Ordered};
 
 // How the triangles of a list compare, under the maps, with their own of the splitting: each is a rotation of its own;
@@ -27,7 +27,8 @@ enum Turning {
 struct Three(u16, u16, u16);
 
 // Compares each of the triangles, under the vertex map `vertices`, with its triangle of `splitting`, which the triangle
-// map `faces` names. It stops at the first that has other vertices.
+// map `faces` names. It stops at the first that has other vertices. `turned` is the least so far that is the other way
+// round, or `triangles` for none.
 pub fn compare(
     triangles: usize,
     list: &[u16],
@@ -39,38 +40,30 @@ pub fn compare(
     ensures { λ r. ⌜ Compared triangles (now (list .entry)) (now (vertices .entry)) (now (faces .entry))
         (now (splitting .entry)) r ⌝ }
 {
-    let mut compared = Comparison::Agree;
+    let mut turned = triangles;
     let mut k = 0;
     while k < triangles {
         let turning = compare_one(k, list, vertices, at(faces, k), splitting);
-        compared = with_one(compared, k, turning);
-        if let Comparison::Differ = compared {
-            return compared;
+        if let Turning::Other = turning {
+            return Comparison::Differ;
         }
+        turned = first_turned(turned, k, turning);
         k += 1;
     }
-    compared
-}
-
-// What triangles before triangle k compare as, with triangle k.
-fn with_one(before: Comparison, k: usize, turning: Turning) -> Comparison
-    ensures { λ r. ⌜ r ≡ withOne before k turning ⌝ }
-{
-    match turning {
-        Turning::Rotated => before,
-        Turning::Reversed => first_turned(before, k),
-        Turning::Other => Comparison::Differ,
+    if turned == triangles {
+        return Comparison::Agree;
     }
+    Comparison::InsideOut(turned)
 }
 
-// The same where triangle k is the other way round: it is named if none before it is.
-fn first_turned(before: Comparison, k: usize) -> Comparison
-    ensures { λ r. ⌜ r ≡ withOne before k turning.Reversed ⌝ }
+// The least triangle that is the other way round, where `turned` is that before triangle k, or no less than k for none.
+fn first_turned(turned: usize, k: usize, turning: Turning) -> usize
+    ensures { λ r. ⌜ r ≡ turnedWith turned k turning ⌝ }
 {
-    let Comparison::Agree = before else {
-        return before;
+    let Turning::Reversed = turning else {
+        return turned;
     };
-    Comparison::InsideOut(k)
+    lesser(turned, k)
 }
 
 // Compares triangle k, under the vertex map `vertices`, with triangle t of `splitting`.
