@@ -108,7 +108,7 @@ module _ {a b c p q r x y z s t u : ℕ} (O : Ordered a b c p q r) (R : Ordered 
 -- ---- rotated vertices
 
 -- rotated vertices are equal one by one, from one of the three on
-rotated-cases : {a b c x y z : ℕ} {A : Type 0} → RotatedThree a b c x y z → (a ≡ x → b ≡ y → c ≡ z → A)
+pub rotated-cases : {a b c x y z : ℕ} {A : Type 0} → RotatedThree a b c x y z → (a ≡ x → b ≡ y → c ≡ z → A)
     → (a ≡ y → b ≡ z → c ≡ x → A) → (a ≡ z → b ≡ x → c ≡ y → A) → A
 rotated-cases never here next last = here refl refl refl
 rotated-cases once here next last = last refl refl refl
@@ -123,24 +123,6 @@ rotated-next e f g = rw (e, f, g) twice
 
 pub rotated-last : {a b c x y z : ℕ} → a ≡ z → b ≡ x → c ≡ y → RotatedThree a b c x y z
 rotated-last e f g = rw (e, f, g) once
-
-module _ {a b c x y z : ℕ} (o : RotatedThree a b c x y z) where
-  -- the first of them is one of the others
-  pub rotated-first : (a ≡ x → ⊥) → (a ≡ y → ⊥) → (a ≡ z → ⊥) → ⊥
-  rotated-first p q r = rotated-cases o (λ e f g. p e) (λ e f g. q e) (λ e f g. r e)
-
-  -- and where these are different, it tells how far they are rotated
-  pub from-here : Apart x y z → a ≡ x → (b ≡ y) × (c ≡ z)
-  from-here d s = rotated-cases o (λ e f g. (f, g)) (λ e f g. absurd (d .xy (sym s ∙ e)))
-      (λ e f g. absurd (d .zx (sym e ∙ s)))
-
-  pub from-next : Apart x y z → a ≡ y → (b ≡ z) × (c ≡ x)
-  from-next d s = rotated-cases o (λ e f g. absurd (d .xy (sym e ∙ s))) (λ e f g. (f, g))
-      (λ e f g. absurd (d .yz (sym s ∙ e)))
-
-  pub from-last : Apart x y z → a ≡ z → (b ≡ x) × (c ≡ y)
-  from-last d s = rotated-cases o (λ e f g. absurd (d .zx (sym s ∙ e))) (λ e f g. absurd (d .yz (sym e ∙ s)))
-      (λ e f g. (f, g))
 
 -- ---- the vertices of a triangle
 

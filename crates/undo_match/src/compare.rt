@@ -99,21 +99,14 @@ fn compare_three(a: u16, b: u16, c: u16, x: u16, y: u16, z: u16) -> Turning
     Turning::Other
 }
 
-// Whether a, b, c are x, y, z rotated, where these are different.
+// Whether a, b, c are x, y, z rotated.
 fn rotated(a: u16, b: u16, c: u16, x: u16, y: u16, z: u16) -> bool
-    requires { ⌜ Apart x y z ⌝ }
     ensures { λ r. ⌜ Decides (RotatedThree a b c x y z) r ⌝ }
 {
-    if a == x {
-        return b == y && c == z;
-    }
-    if a == y {
-        return b == z && c == x;
-    }
-    if a == z {
-        return b == x && c == y;
-    }
-    false
+    let here = (a == x) & (b == y) & (c == z);
+    let next = (a == y) & (b == z) & (c == x);
+    let last = (a == z) & (b == x) & (c == y);
+    here | next | last
 }
 
 // Whether a, b, c are the vertices x, y, z, which are different.

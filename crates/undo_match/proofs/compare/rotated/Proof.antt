@@ -1,59 +1,71 @@
--- `undo_match::compare::rotated` meets its contract: where the first vertex stands tells what the others must be.
+-- `undo_match::compare::rotated` meets its contract: one of the three tests passes exactly where the vertices are
+-- rotated.
 use Prim.Native.Nat.{ℕ}
-use mathlib.Core.Path.{_≡_}
-use mathlib.Core.Logic.{_≢_}
+use mathlib.Core.Path.{_≡_, refl}
+use mathlib.Core.Logic.{_⊎_, inl, inr}
+use mathlib.Core.Bool.{Bool, true, false, _&&_, _||_}
 use lib.Dec.{eqb}
 use borrow.Author.Tests.{eqb-true, eq-eqb}
 use Rattle.lists.specs.Decides.{Decides}
-use Rattle.lists.proofs.Decides.{decides-not}
-use Rattle.undo_match.proofs.Threes.{rotated-here, rotated-next, rotated-last, rotated-first}
-use Rattle.undo_match.proofs.Threes.{from-here, from-next, from-last}
+use Rattle.undo_match.specs.Compared.{RotatedThree}
+use Rattle.lists.proofs.Decides.{false-true, decides-moved}
+use Rattle.undo_match.proofs.Threes.{rotated-cases, rotated-here, rotated-next, rotated-last}
 use Rattle.undo_match.proofs.compare.rotated.Statement.{statement}
 use Rattle.undo_match.proofs.compare.rotated.Tie as tie
 
-module _ {A : Type 0} {p q r s : ℕ} (there : p ≡ q → r ≡ s → A) (back : A → (p ≡ q) × (r ≡ s)) where
-  -- what says that two pairs are equal is decided by the second where the first are equal
-  second-decides : p ≡ q → Decides A (eqb r s)
-  second-decides e = record { sound = λ f. there e (eqb-true r s f); complete = λ a. eq-eqb r s (back a .1) }
+-- ---- tests that are joined
 
-  -- and by the first where they are not
-  first-decides : p ≢ q → Decides A (eqb p q)
-  first-decides n = record { sound = λ e. absurd (n (eqb-true p q e)); complete = λ a. absurd (n (back a .0)) }
+-- whether two numbers are equal
+equal : (m n : ℕ) → Decides (m ≡ n) (eqb m n)
+equal m n = record { sound = eqb-true m n; complete = eq-eqb m n }
+
+-- both
+both : {A B : Type 0} (s t : Bool) → Decides A s → Decides B t → Decides (A × B) (s && t)
+both true t D E = record { sound = λ e. (D .sound refl, E .sound e); complete = λ p. E .complete (p .1) }
+both false t D E = record { sound = λ e. absurd (false-true e); complete = λ p. D .complete (p .0) }
+
+-- one of two
+either : {A B : Type 0} (s t : Bool) → Decides A s → Decides B t → Decides (A ⊎ B) (s || t)
+either true t D E = record { sound = λ _. inl (D .sound refl); complete = λ _. refl }
+either {A} {B} false t D E = record { sound = λ e. inr (E .sound e); complete = known }
+  where
+    known : A ⊎ B → t ≡ true
+    known (inl a) = absurd (false-true (D .complete a))
+    known (inr b) = E .complete b
+
+-- Three pairs of equal numbers.
+abbrev Pairs : (a x b y c z : ℕ) → Type 0
+Pairs a x b y c z = ((a ≡ x) × (b ≡ y)) × (c ≡ z)
+
+-- whether they are
+three : (a x b y c z : ℕ) → Decides (Pairs a x b y c z) ((eqb a x && eqb b y) && eqb c z)
+three a x b y c z = both (eqb a x && eqb b y) (eqb c z) (both (eqb a x) (eqb b y) (equal a x) (equal b y)) (equal c z)
+
+-- ---- the contract
+
+-- Three vertices are three others one by one, from one of the three on.
+abbrev FromOne : (a b c x y z : ℕ) → Type 0
+FromOne a b c x y z = (Pairs a x b y c z ⊎ Pairs a y b z c x) ⊎ Pairs a z b x c y
+
+-- then they are rotated
+from-rotated : (a b c x y z : ℕ) → FromOne a b c x y z → RotatedThree a b c x y z
+from-rotated a b c x y z (inl (inl ((e, f), g))) = rotated-here e f g
+from-rotated a b c x y z (inl (inr ((e, f), g))) = rotated-next e f g
+from-rotated a b c x y z (inr ((e, f), g)) = rotated-last e f g
+
+-- and only then
+rotated-from : (a b c x y z : ℕ) → RotatedThree a b c x y z → FromOne a b c x y z
+rotated-from a b c x y z o = rotated-cases o (λ e f g. inl (inl ((e, f), g))) (λ e f g. inl (inr ((e, f), g)))
+    (λ e f g. inr ((e, f), g))
+
+-- so the three tests decide it
+decided : (a b c x y z : ℕ) → Decides (RotatedThree a b c x y z)
+    ((((eqb a x && eqb b y) && eqb c z) || ((eqb a y && eqb b z) && eqb c x)) || ((eqb a z && eqb b x) && eqb c y))
+decided a b c x y z = decides-moved (from-rotated a b c x y z) (rotated-from a b c x y z)
+    (either _ _ (either _ _ (three a x b y c z) (three a y b z c x)) (three a z b x c y))
 
 returns : tie.Need-returns
-returns c =
-    let e = c .before .if1 .taken in
-    second-decides (rotated-here e) (λ o. from-here o (c .before .before .pre) e) (c .if2 .taken)
-
-returns-2 : tie.Need-returns-2
-returns-2 c =
-    let e = c .before .if1 .taken in
-    first-decides (rotated-here e) (λ o. from-here o (c .before .before .pre) e) (c .if2 .left)
-
-returns-3 : tie.Need-returns-3
-returns-3 c =
-    let e = c .before .if3 .taken in
-    second-decides (rotated-next e) (λ o. from-next o (c .before .before .before .pre) e) (c .if4 .taken)
-
-returns-4 : tie.Need-returns-4
-returns-4 c =
-    let e = c .before .if3 .taken in
-    first-decides (rotated-next e) (λ o. from-next o (c .before .before .before .pre) e) (c .if4 .left)
-
-returns-5 : tie.Need-returns-5
-returns-5 c =
-    let e = c .before .if5 .taken in
-    second-decides (rotated-last e) (λ o. from-last o (c .before .before .before .before .pre) e) (c .if6 .taken)
-
-returns-6 : tie.Need-returns-6
-returns-6 c =
-    let e = c .before .if5 .taken in
-    first-decides (rotated-last e) (λ o. from-last o (c .before .before .before .before .pre) e) (c .if6 .left)
-
-returns-7 : tie.Need-returns-7
-returns-7 c =
-    decides-not (λ o. rotated-first o (c .before .before .if1 .left) (c .before .if3 .left) (c .if5 .left))
+returns c = let v = c .args in decided (v .a) (v .b) (v .c) (v .x) (v .y) (v .z)
 
 pub rotated-spec : {M : Type 1} → statement M
-rotated-spec =
-    tie.close (tie.spec returns returns-2 returns-3 returns-4 returns-5 returns-6 returns-7)
+rotated-spec = tie.close (tie.spec returns)
