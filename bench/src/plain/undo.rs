@@ -272,9 +272,10 @@ fn holds(keys: &[u16], values: &[u16], table: &[u16]) -> bool {
     keys.iter().zip(values).all(|(&key, &value)| table[key as usize] == value)
 }
 
-// Whether a triangle has three corners in the same order, beginning with any of them. Without a branch, since with which it begins is
-// what no processor foresees.
+// Whether a triangle has three corners in the same order, beginning with any of them: each is followed by what follows it there. With
+// which it begins decides no branch, since no processor foresees it.
 fn is_rotation([a, b, c]: [u16; 3], s: &[u16]) -> bool {
-    let begins = |x: u16, y: u16, z: u16| (a == x) & (b == y) & (c == z);
-    begins(s[0], s[1], s[2]) | begins(s[1], s[2], s[0]) | begins(s[2], s[0], s[1])
+    let [x, y, z] = [s[0], s[1], s[2]];
+    let follower = |v: u16| if v == x { y } else if v == y { z } else { x };
+    b == follower(a) && c == follower(b) && a == follower(c)
 }

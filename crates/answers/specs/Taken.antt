@@ -27,6 +27,12 @@ keptOf (taken.Reading role M n) = M
 keptOf (taken.InsideOut place) = 0
 keptOf taken.Nothing = 0
 
+-- Of two roles, one after the other, that have no reading, the first that has one by the old rule.
+abbrev pub earlierOf : Taken → Taken → Taken
+earlierOf (taken.Reading role M n) tried = taken.Reading role M n
+earlierOf (taken.InsideOut k) tried = taken.InsideOut k
+earlierOf taken.Nothing tried = tried
+
 -- What `write_reading` is lent: the three buffers of what is taken, and room for it in the outputs.
 pub record ReadingLent (found : Taken) (N F : ℕ) (coarse map faces : List ℕ) (out : Outputs) : Type 0 where
   pub coarseRoom : 3 * centresOf found ≤ length coarse

@@ -7,7 +7,7 @@ use lists::copy;
 ghost use mathlib.Core.Path.{_≡_};
 ghost use Prim.Native.Nat.{_≤_};
 ghost use Rattle.answers.specs.Answers.{oneAnswerOf, outputs};
-ghost use Rattle.answers.specs.Taken.{ReadingLent, leftBy, keptOf, answerTo};
+ghost use Rattle.answers.specs.Taken.{earlierOf, ReadingLent, leftBy, keptOf, answerTo};
 
 // A role that has a reading, with the counts of its coarse mesh; or the triangle that stands in the way, where there is
 // a reading by the old rule alone; or nothing, where there is none.
@@ -21,6 +21,16 @@ pub enum Taken {
         place: usize,
     },
     Nothing,
+}
+
+// What is remembered of roles that have no reading, with one more: the first of them that has one by the old rule.
+pub fn earlier(remembered: Taken, tried: Taken) -> Taken
+    ensures { λ r. ⌜ r ≡ earlierOf remembered tried ⌝ }
+{
+    let Taken::Nothing = remembered else {
+        return remembered;
+    };
+    tried
 }
 
 // Writes the reading that is taken, which stands in `coarse`, `map` and `faces`, to the outputs of an undo of so many

@@ -1,5 +1,6 @@
 -- Three vertices, arranged and put in order: they stay the same vertices, and three different ones have only one
--- order. Three vertices, rotated. A triangle's vertices are the three at its corners.
+-- order. Three vertices, rotated: each is followed by what follows it in the others. A triangle's vertices are the three
+-- at its corners.
 use Prim.Native.Nat.{ℕ, _+_, _*_, _%_, _≤_, _<_}
 use native.Mathlib.Omega.{arith}
 use mathlib.Core.Path.{_≡_, _∙_, refl, sym, ap, subst}
@@ -11,6 +12,7 @@ use Rattle.lists.proofs.Lists.{by-eq}
 use Rattle.undo_match.specs.Compared.{Apart, OneOf, first, second, third, SameThree}
 use Rattle.undo_match.specs.Compared.{Arranged, same, front, back, Ordered}
 use Rattle.undo_match.specs.Compared.{RotatedThree, never, once, twice}
+use Rattle.undo_match.specs.Compared.{Follows, afterFirst, afterSecond, afterLast}
 
 -- ---- arranged vertices are the same
 
@@ -108,21 +110,57 @@ module _ {a b c p q r x y z s t u : ℕ} (O : Ordered a b c p q r) (R : Ordered 
 -- ---- rotated vertices
 
 -- rotated vertices are equal one by one, from one of the three on
-pub rotated-cases : {a b c x y z : ℕ} {A : Type 0} → RotatedThree a b c x y z → (a ≡ x → b ≡ y → c ≡ z → A)
+rotated-cases : {a b c x y z : ℕ} {A : Type 0} → RotatedThree a b c x y z → (a ≡ x → b ≡ y → c ≡ z → A)
     → (a ≡ y → b ≡ z → c ≡ x → A) → (a ≡ z → b ≡ x → c ≡ y → A) → A
 rotated-cases never here next last = here refl refl refl
 rotated-cases once here next last = last refl refl refl
 rotated-cases twice here next last = next refl refl refl
 
 -- and such vertices are rotated
-pub rotated-here : {a b c x y z : ℕ} → a ≡ x → b ≡ y → c ≡ z → RotatedThree a b c x y z
+rotated-here : {a b c x y z : ℕ} → a ≡ x → b ≡ y → c ≡ z → RotatedThree a b c x y z
 rotated-here e f g = rw (e, f, g) never
 
-pub rotated-next : {a b c x y z : ℕ} → a ≡ y → b ≡ z → c ≡ x → RotatedThree a b c x y z
+rotated-next : {a b c x y z : ℕ} → a ≡ y → b ≡ z → c ≡ x → RotatedThree a b c x y z
 rotated-next e f g = rw (e, f, g) twice
 
-pub rotated-last : {a b c x y z : ℕ} → a ≡ z → b ≡ x → c ≡ y → RotatedThree a b c x y z
+rotated-last : {a b c x y z : ℕ} → a ≡ z → b ≡ x → c ≡ y → RotatedThree a b c x y z
 rotated-last e f g = rw (e, f, g) once
+
+-- the first may be put last
+pub rotated-on : {a b c x y z : ℕ} → RotatedThree a b c x y z → RotatedThree b c a x y z
+rotated-on never = twice
+rotated-on once = never
+rotated-on twice = once
+
+module _ {x y z : ℕ} (d : Apart x y z) where
+  -- after each of three different vertices comes the next
+  after-first : {v w : ℕ} → v ≡ x → Follows v x y z w → w ≡ y
+  after-first e (afterFirst _) = refl
+  after-first e (afterSecond n _) = absurd (n e)
+  after-first e (afterLast n _) = absurd (n e)
+
+  after-second : {v w : ℕ} → v ≡ y → Follows v x y z w → w ≡ z
+  after-second e (afterFirst f) = absurd (d .xy (sym f ∙ e))
+  after-second e (afterSecond _ _) = refl
+  after-second e (afterLast _ n) = absurd (n e)
+
+  after-last : {v w : ℕ} → v ≡ z → Follows v x y z w → w ≡ x
+  after-last e (afterFirst f) = absurd (d .zx (sym e ∙ f))
+  after-last e (afterSecond _ f) = absurd (d .yz (sym f ∙ e))
+  after-last e (afterLast _ _) = refl
+
+  -- so of rotated ones the second is what follows the first
+  pub rotated-follower : {a b c w : ℕ} → RotatedThree a b c x y z → Follows a x y z w → b ≡ w
+  rotated-follower o F = rotated-cases o (λ e f _. f ∙ sym (after-first e F)) (λ e f _. f ∙ sym (after-second e F))
+      (λ e f _. f ∙ sym (after-last e F))
+
+  -- and three of which each is what follows the one before are rotated
+  pub followers-rotated : {a b c p q r : ℕ} → Follows a x y z p → Follows b x y z q → Follows c x y z r → b ≡ p → c ≡ q
+      → a ≡ r → RotatedThree a b c x y z
+  followers-rotated (afterFirst e) B C f g h = rotated-here e f (g ∙ after-second f B)
+  followers-rotated (afterSecond _ e) B C f g h = rotated-next e f (g ∙ after-last f B)
+  followers-rotated (afterLast _ _) B C f g h =
+      let last = g ∙ after-first f B in rotated-last (h ∙ after-second last C) f last
 
 -- ---- the vertices of a triangle
 

@@ -90,6 +90,12 @@ pub data RotatedThree (a b c : ℕ) : (x y z : ℕ) → Type 0 where
   once : RotatedThree a b c b c a
   twice : RotatedThree a b c c a b
 
+-- The vertex after v in the round x, y, z; if v is none of them, the first.
+pub data Follows (v x y z : ℕ) : ℕ → Type 0 where
+  afterFirst : v ≡ x → Follows v x y z y
+  afterSecond : v ≢ x → v ≡ y → Follows v x y z z
+  afterLast : v ≢ x → v ≢ y → Follows v x y z x
+
 -- How the vertices a, b, c compare with x, y, z.
 pub data ComparedThree (a b c x y z : ℕ) : Turning → Type 0 where
   rotated : RotatedThree a b c x y z → ComparedThree a b c x y z turning.Rotated

@@ -6,7 +6,7 @@ ghost use mathlib.Core.Path.{_≡_};
 ghost use Rattle.theory.specs.Reading.{renamed};
 ghost use Rattle.lists.specs.Decides.{Decides};
 ghost use Rattle.undo_match.specs.Compared.{CompareLent, Compared, turnedWith, OneLent, ComparedOne};
-ghost use Rattle.undo_match.specs.Compared.{Apart, ComparedThree, RotatedThree, SameThree, Ordered};
+ghost use Rattle.undo_match.specs.Compared.{Apart, ComparedThree, RotatedThree, Follows, SameThree, Ordered};
 
 // How the triangles of a list compare, under the maps, with their own of the splitting: each is a rotation of its own;
 // or each has the vertices of its own, and the one named is the least that is no rotation; or one has other vertices.
@@ -99,14 +99,34 @@ fn compare_three(a: u16, b: u16, c: u16, x: u16, y: u16, z: u16) -> Turning
     Turning::Other
 }
 
-// Whether a, b, c are x, y, z rotated.
+// Whether a, b, c are x, y, z rotated, which are different: each is followed by what follows it there. Which of the three
+// rotations they are decides no branch, as in a shuffled mesh it could not be foreseen.
 fn rotated(a: u16, b: u16, c: u16, x: u16, y: u16, z: u16) -> bool
+    requires { ⌜ Apart x y z ⌝ }
     ensures { λ r. ⌜ Decides (RotatedThree a b c x y z) r ⌝ }
 {
-    let here = (a == x) & (b == y) & (c == z);
-    let next = (a == y) & (b == z) & (c == x);
-    let last = (a == z) & (b == x) & (c == y);
-    here | next | last
+    let second = follower(a, x, y, z);
+    if b != second {
+        return false;
+    }
+    let third = follower(b, x, y, z);
+    if c != third {
+        return false;
+    }
+    a == follower(c, x, y, z)
+}
+
+// The vertex that follows v in the round x, y, z: after the last comes the first.
+fn follower(v: u16, x: u16, y: u16, z: u16) -> u16
+    ensures { λ r. ⌜ Follows v x y z r ⌝ }
+{
+    if v == x {
+        return y;
+    }
+    if v == y {
+        return z;
+    }
+    x
 }
 
 // Whether a, b, c are the vertices x, y, z, which are different.

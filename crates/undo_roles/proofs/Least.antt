@@ -16,12 +16,13 @@ use Rattle.theory.proofs.OldRule.{old-returned, inside-out-at}
 use Rattle.lists.proofs.Lists.{by-lt}
 use Rattle.answers.specs.declared.taken.Taken.{Taken}
 use Rattle.answers.specs.declared.taken.Taken.the-variants as taken
+use Rattle.answers.specs.Taken.{earlierOf}
 use Rattle.answers.proofs.Arms.{OtherArm, not-reading}
 use Rattle.undo_role.specs.Buffers.{Buffers, buffers}
 use Rattle.undo_role.specs.Tried.{RolesLent, RoleLent, OldOnly, TriedRole}
 use Rattle.undo_role.specs.Tried.{found as roleFound, insideOut as roleInsideOut, none as roleNone}
 use Rattle.undo_role.proofs.Rooms.{SameLengths, kept-on, rooms-kept}
-use Rattle.undo_roles.specs.Least.{LeastTried, found, insideOut, none, earlierOf}
+use Rattle.undo_roles.specs.Least.{LeastTried, found, insideOut, none}
 use Rattle.undo_roles.specs.Choices.{ChoiceLent, ChosenTried}
 use Rattle.undo_roles.specs.Choices.{found as chosenFound, insideOut as chosenInsideOut, none as chosenNone}
 

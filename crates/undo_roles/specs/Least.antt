@@ -18,9 +18,3 @@ pub data LeastTried (N F : ℕ) (T coarse map faces : List ℕ) : Taken → Type
   insideOut : {role k : ℕ} → NoRole Rotated N T → LeastRole Same N T role → OldOnly N T role k
       → LeastTried N F T coarse map faces (taken.InsideOut k)
   none : NoRole Same N T → LeastTried N F T coarse map faces taken.Nothing
-
--- Of two roles, one after the other, that have no reading, the first that has one by the old rule.
-abbrev pub earlierOf : Taken → Taken → Taken
-earlierOf (taken.Reading role M n) tried = taken.Reading role M n
-earlierOf (taken.InsideOut k) tried = taken.InsideOut k
-earlierOf taken.Nothing tried = tried

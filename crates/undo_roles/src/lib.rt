@@ -1,12 +1,12 @@
 // The least role that has a reading, and the role that is asked for. It takes time linear in vertices and triangles,
 // and assumes nothing.
 use answers::taken::Taken;
+use answers::taken::earlier;
 use limits::limits::Limits;
 use undo_role::try_role;
-ghost use mathlib.Core.Path.{_≡_};
 ghost use Rattle.undo_role.specs.Buffers.{buffers};
 ghost use Rattle.undo_role.specs.Tried.{RolesLent};
-ghost use Rattle.undo_roles.specs.Least.{LeastTried, earlierOf};
+ghost use Rattle.undo_roles.specs.Least.{LeastTried};
 ghost use Rattle.undo_roles.specs.Choices.{ChoiceLent, ChosenTried};
 
 // How many roles there are: 0 to 3.
@@ -62,16 +62,6 @@ pub fn least_role(
         role += 1;
     }
     remembered
-}
-
-// What is remembered of roles that have no reading, with one more: the first of them that has one by the old rule.
-fn earlier(remembered: Taken, tried: Taken) -> Taken
-    ensures { λ r. ⌜ r ≡ earlierOf remembered tried ⌝ }
-{
-    let Taken::Nothing = remembered else {
-        return remembered;
-    };
-    tried
 }
 
 // Tries the role asked, or all roles where any will do. The reading is left in `coarse`, `map` and `faces`.

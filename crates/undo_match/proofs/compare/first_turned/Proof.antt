@@ -1,6 +1,6 @@
 -- `undo_match::compare::first_turned` meets its contract: a triangle that is not the other way round changes nothing.
 use native.Mathlib.Omega.{arith}
-use Prim.Native.Nat.{ℕ}
+use Prim.Native.Nat.{ℕ, min}
 use mathlib.Core.Path.{_≡_, refl, sym, ap, _∙_}
 use mathlib.Core.Logic.{inl, inr}
 use mathlib.Core.List.{[], _∷_}
@@ -34,7 +34,8 @@ lesser-requires c κs = search needs
 returns-2 : tie.Need-returns-2
 returns-2 c =
     let args = c .before .before .before .args in
-    c .lesser .ensures ∙ sym (ap (turnedWith (args .turned) (args .k)) (c .before .enum-told .given .1))
+    let least : c .lesser .result ≡ min (args .turned) (args .k) = omega (arith, c .lesser .ensures) in
+    least ∙ sym (ap (turnedWith (args .turned) (args .k)) (c .before .enum-told .given .1))
 
 pub first-turned-spec : {M : Type 1} → statement M
 first-turned-spec = tie.close (tie.spec enum-told returns lesser-requires returns-2)

@@ -1,71 +1,61 @@
--- `undo_match::compare::rotated` meets its contract: one of the three tests passes exactly where the vertices are
--- rotated.
+-- `undo_match::compare::rotated` meets its contract: rotated vertices are those of which each is followed by what follows
+-- it in the others.
 use Prim.Native.Nat.{ℕ}
-use mathlib.Core.Path.{_≡_, refl}
-use mathlib.Core.Logic.{_⊎_, inl, inr}
-use mathlib.Core.Bool.{Bool, true, false, _&&_, _||_}
+use native.Mathlib.Omega.{arith}
+use mathlib.Core.Path.{_≡_}
+use mathlib.Core.Bool.{false}
 use lib.Dec.{eqb}
+use borrow.Author.Needs.{needs}
 use borrow.Author.Tests.{eqb-true, eq-eqb}
 use Rattle.lists.specs.Decides.{Decides}
-use Rattle.undo_match.specs.Compared.{RotatedThree}
-use Rattle.lists.proofs.Decides.{false-true, decides-moved}
-use Rattle.undo_match.proofs.Threes.{rotated-cases, rotated-here, rotated-next, rotated-last}
+use Rattle.undo_match.specs.Compared.{Apart, RotatedThree, Follows}
+use Rattle.lists.proofs.Decides.{decides-not}
+use Rattle.undo_match.proofs.Threes.{rotated-on, rotated-follower, followers-rotated}
 use Rattle.undo_match.proofs.compare.rotated.Statement.{statement}
 use Rattle.undo_match.proofs.compare.rotated.Tie as tie
 
--- ---- tests that are joined
+module _ {a b c x y z p : ℕ} (d : Apart x y z) (A : Follows a x y z p) where
+  -- where the second is not what follows the first, they are not rotated
+  not-next : (b ≡ p → ⊥) → Decides (RotatedThree a b c x y z) false
+  not-next n = decides-not (λ o. n (rotated-follower d o A))
 
--- whether two numbers are equal
-equal : (m n : ℕ) → Decides (m ≡ n) (eqb m n)
-equal m n = record { sound = eqb-true m n; complete = eq-eqb m n }
+  module _ {q : ℕ} (B : Follows b x y z q) where
+    -- nor where the third is not what follows the second
+    not-after-next : (c ≡ q → ⊥) → Decides (RotatedThree a b c x y z) false
+    not-after-next n = decides-not (λ o. n (rotated-follower d (rotated-on o) B))
 
--- both
-both : {A B : Type 0} (s t : Bool) → Decides A s → Decides B t → Decides (A × B) (s && t)
-both true t D E = record { sound = λ e. (D .sound refl, E .sound e); complete = λ p. E .complete (p .1) }
-both false t D E = record { sound = λ e. absurd (false-true e); complete = λ p. D .complete (p .0) }
+    -- where both are, the last test decides
+    decided : {r : ℕ} → Follows c x y z r → b ≡ p → c ≡ q → Decides (RotatedThree a b c x y z) (eqb a r)
+    decided {r} C e f = record {
+      sound = λ g. followers-rotated d A B C e f (eqb-true a r g);
+      complete = λ o. eq-eqb a r (rotated-follower d (rotated-on (rotated-on o)) C);
+    }
 
--- one of two
-either : {A B : Type 0} (s t : Bool) → Decides A s → Decides B t → Decides (A ⊎ B) (s || t)
-either true t D E = record { sound = λ _. inl (D .sound refl); complete = λ _. refl }
-either {A} {B} false t D E = record { sound = λ e. inr (E .sound e); complete = known }
-  where
-    known : A ⊎ B → t ≡ true
-    known (inl a) = absurd (false-true (D .complete a))
-    known (inr b) = E .complete b
-
--- Three pairs of equal numbers.
-abbrev Pairs : (a x b y c z : ℕ) → Type 0
-Pairs a x b y c z = ((a ≡ x) × (b ≡ y)) × (c ≡ z)
-
--- whether they are
-three : (a x b y c z : ℕ) → Decides (Pairs a x b y c z) ((eqb a x && eqb b y) && eqb c z)
-three a x b y c z = both (eqb a x && eqb b y) (eqb c z) (both (eqb a x) (eqb b y) (equal a x) (equal b y)) (equal c z)
-
--- ---- the contract
-
--- Three vertices are three others one by one, from one of the three on.
-abbrev FromOne : (a b c x y z : ℕ) → Type 0
-FromOne a b c x y z = (Pairs a x b y c z ⊎ Pairs a y b z c x) ⊎ Pairs a z b x c y
-
--- then they are rotated
-from-rotated : (a b c x y z : ℕ) → FromOne a b c x y z → RotatedThree a b c x y z
-from-rotated a b c x y z (inl (inl ((e, f), g))) = rotated-here e f g
-from-rotated a b c x y z (inl (inr ((e, f), g))) = rotated-next e f g
-from-rotated a b c x y z (inr ((e, f), g)) = rotated-last e f g
-
--- and only then
-rotated-from : (a b c x y z : ℕ) → RotatedThree a b c x y z → FromOne a b c x y z
-rotated-from a b c x y z o = rotated-cases o (λ e f g. inl (inl ((e, f), g))) (λ e f g. inl (inr ((e, f), g)))
-    (λ e f g. inr ((e, f), g))
-
--- so the three tests decide it
-decided : (a b c x y z : ℕ) → Decides (RotatedThree a b c x y z)
-    ((((eqb a x && eqb b y) && eqb c z) || ((eqb a y && eqb b z) && eqb c x)) || ((eqb a z && eqb b x) && eqb c y))
-decided a b c x y z = decides-moved (from-rotated a b c x y z) (rotated-from a b c x y z)
-    (either _ _ (either _ _ (three a x b y c z) (three a y b z c x)) (three a z b x c y))
+follower-requires : tie.Need-follower-requires
+follower-requires c κs = search needs
 
 returns : tie.Need-returns
-returns c = let v = c .args in decided (v .a) (v .b) (v .c) (v .x) (v .y) (v .z)
+returns c = not-next (c .before .before .pre) (c .before .follower .ensures) (λ e. omega arith)
+
+follower-requires-2 : tie.Need-follower-requires-2
+follower-requires-2 c κs = search needs
+
+returns-2 : tie.Need-returns-2
+returns-2 c =
+    let first = c .before .before .before in
+    not-after-next (first .before .pre) (first .follower .ensures) (c .before .follower2 .ensures) (λ e. omega arith)
+
+follower-requires-3 : tie.Need-follower-requires-3
+follower-requires-3 c κs = search needs
+
+returns-3 : tie.Need-returns-3
+returns-3 c =
+    let second = c .before .before in
+    let first = second .before .before in
+    decided (first .before .pre) (first .follower .ensures) (second .follower2 .ensures) (c .follower3 .ensures)
+    (omega arith) (omega arith)
 
 pub rotated-spec : {M : Type 1} → statement M
-rotated-spec = tie.close (tie.spec returns)
+rotated-spec =
+    tie.close
+    (tie.spec follower-requires returns follower-requires-2 returns-2 follower-requires-3 returns-3)

@@ -1,4 +1,4 @@
--- `undo_roles::earlier` meets its contract: what is remembered stays, unless it is nothing.
+-- `answers::taken::earlier` meets its contract: what is remembered stays, unless it is nothing.
 use native.Mathlib.Omega.{arith}
 use mathlib.Core.Path.{_≡_, refl, sym, ap}
 use mathlib.Core.Logic.{inl, inr}
@@ -6,12 +6,12 @@ use mathlib.Core.List.{[], _∷_}
 use types.Run.{OneOf}
 use denote.Enum.Declared.{tagOf}
 use borrow.Author.Needs.{needs}
 use Rattle.answers.specs.declared.taken.Taken.{Taken}
 use Rattle.answers.specs.declared.taken.Taken.the-variants as taken
 use Rattle.answers.proofs.taken.Taken as declared
-use Rattle.undo_roles.specs.Least.{earlierOf}
-use Rattle.undo_roles.proofs.earlier.Statement.{statement}
-use Rattle.undo_roles.proofs.earlier.Tie as tie
+use Rattle.answers.specs.Taken.{earlierOf}
+use Rattle.answers.proofs.taken.earlier.Statement.{statement}
+use Rattle.answers.proofs.taken.earlier.Tie as tie
 
 -- what is not nothing stays
 stays : (remembered tried : Taken) → OneOf (0 ∷ 1 ∷ []) (tagOf declared.the-type remembered)
