@@ -1,4 +1,2 @@
 -- Laws for the proofs of the functions, and for whoever calls them.
 pub mod Runs
-pub mod Threes
-pub mod Comparisons

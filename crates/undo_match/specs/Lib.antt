@@ -1,5 +1,4 @@
--- What selecting, claiming and comparing triangles are lent and do.
+-- What selecting and claiming triangles are lent and do.
 pub mod Runs
 pub mod Selected
 pub mod Claims
-pub mod Compared

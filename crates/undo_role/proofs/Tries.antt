@@ -32,9 +32,9 @@ use Rattle.answers.specs.Taken.{readingIn}
 use Rattle.undo_cover.specs.Cover.{CoverMade}
 use Rattle.undo_cover.specs.Starts.{startOf}
 use Rattle.undo_match.specs.Selected.{Selected}
-use Rattle.undo_match.specs.Compared.{AllAgree, Compared, agree as agreed, insideOut, differ}
-use Rattle.undo_match.specs.declared.compare.Comparison.{Comparison}
-use Rattle.undo_match.specs.declared.compare.Comparison.the-variants as comparison
+use Rattle.undo_compare.specs.Compared.{AllAgree, Compared, agree as agreed, insideOut, differ}
+use Rattle.undo_compare.specs.declared.Comparison.{Comparison}
+use Rattle.undo_compare.specs.declared.Comparison.the-variants as comparison
 use Rattle.undo_stages.specs.Role.{FindLent, Gathered, TilesFound, nowhere, uneven, quarter}
 use Rattle.undo_stages.specs.Role.{NumberTilesLent, AddedUp, even, odd, CoarseNumbered}
 use Rattle.undo_stages.specs.Maps.{VerticesLent, VerticesMapped, TrianglesLent, TrianglesMapped, AllLent, AllCompared}

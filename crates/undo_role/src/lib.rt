@@ -2,7 +2,7 @@
 // compared, and it is here that tables become readings. Every table lives in a slice that the caller lends. It takes
 // time linear in vertices and triangles, and assumes nothing.
 use answers::taken::Taken;
-use undo_match::compare::Comparison;
+use undo_compare::Comparison;
 use undo_stages::Counted;
 use undo_stages::compare_all;
 use undo_stages::find_tiles;

@@ -19,8 +19,8 @@ use Rattle.lists.specs.Tables.{Tabulated}
 use Rattle.split.specs.Fours.{FoursLent}
 use Rattle.undo_match.specs.Selected.{Selected}
 use Rattle.undo_match.specs.Claims.{Claimed}
-use Rattle.undo_match.specs.Compared.{CompareLent, Compared}
-use Rattle.undo_match.specs.declared.compare.Comparison.{Comparison}
+use Rattle.undo_compare.specs.Compared.{CompareLent, Compared}
+use Rattle.undo_compare.specs.declared.Comparison.{Comparison}
 use Rattle.lists.proofs.Decides.{false-true}
 use Rattle.undo_stages.specs.Maps.{VerticesLent, VerticesMapped, TrianglesLent, AllLent, AllCompared}
 

@@ -14,8 +14,8 @@ use Rattle.lists.specs.Tables.{Tabulated}
 use Rattle.mesh_mates.specs.Others.{HasMate}
 use Rattle.undo_match.specs.Selected.{SelectLent, Selected}
 use Rattle.undo_match.specs.Claims.{ClaimsLent, Claimed}
-use Rattle.undo_match.specs.Compared.{Compared}
-use Rattle.undo_match.specs.declared.compare.Comparison.{Comparison}
+use Rattle.undo_compare.specs.Compared.{Compared}
+use Rattle.undo_compare.specs.declared.Comparison.{Comparison}
 
 -- ---- vertices
 

@@ -1,0 +1,2 @@
+-- What comparing triangles is lent and does.
+pub mod Compared
