@@ -276,6 +276,14 @@ fn holds(keys: &[u16], values: &[u16], table: &[u16]) -> bool {
 // which it begins decides no branch, since no processor foresees it.
 fn is_rotation([a, b, c]: [u16; 3], s: &[u16]) -> bool {
     let [x, y, z] = [s[0], s[1], s[2]];
-    let follower = |v: u16| if v == x { y } else if v == y { z } else { x };
+    let follower = |v: u16| {
+        if v == x {
+            y
+        } else if v == y {
+            z
+        } else {
+            x
+        }
+    };
     b == follower(a) && c == follower(b) && a == follower(c)
 }

@@ -117,7 +117,7 @@ fn rotated(a: u16, b: u16, c: u16, x: u16, y: u16, z: u16) -> bool
     a == follower(c, x, y, z)
 }
 
-// The vertex that follows v in the round x, y, z: after the last comes the first.
+// The vertex that follows v in the round x, y, z, or x where v is none of them.
 fn follower(v: u16, x: u16, y: u16, z: u16) -> u16
     ensures { λ r. ⌜ Follows v x y z r ⌝ }
 {
