@@ -5,7 +5,7 @@ use crate::cases::{
     UNDO_SEVERALS,
 };
 use crate::library::{Answer, OneAnswer, OneOutputs, SeveralAnswer};
-use crate::meshes::{self, edge_counts, splitting, Mesh, Several, MOST, MOST_TO_SPLIT, SIZES, TURNED};
+use crate::meshes::{self, edge_counts, splitting, Mesh, Several, MOST, MOST_TO_SPLIT, SIZES};
 use crate::text_checks::{check_text_refusals, check_texts};
 use std::collections::BTreeMap;
 
@@ -215,10 +215,10 @@ fn check_undo_one(mesh: &Mesh) {
     }
 }
 
-// A mesh that has no reading in what is asked is refused 11; one with a triangle that is turned, which but for that has a reading in
+// A mesh that has no reading in what is asked is refused 11; one with triangles that are turned, which but for that has a reading in
 // each role, 15.
 fn check_unread(version: usize, mesh: &Mesh, asked: u64) {
-    let refusal = if mesh.name == TURNED { (15, turned_place(version, mesh, asked % LEAST)) } else { (11, 0) };
+    let refusal = if mesh.is_inside_out() { (15, turned_place(version, mesh, asked % LEAST)) } else { (11, 0) };
     check_undo_one_refused(version, mesh.vertices as u64, &mesh.list, asked, refusal);
 }
 

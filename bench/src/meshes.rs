@@ -7,8 +7,9 @@ pub const SIZES: [usize; 4] = [256, 1_024, 4_096, MOST];
 pub const MOST: usize = 16_384;
 pub const MOST_TO_SPLIT: usize = MOST / 4;
 
-// A mesh with a triangle that is turned.
-pub const TURNED: &str = "turned";
+// A mesh with a triangle that is turned, and one of which half the triangles are.
+const TURNED: &str = "turned";
+const MIXED: &str = "mixed";
 
 pub const IN_ORDER: &str = "in order";
 const SHUFFLED: &str = "shuffled";
@@ -29,6 +30,13 @@ pub struct Mesh {
     pub coarse: Vec<Option<[u16; 3]>>,
 }
 
+impl Mesh {
+    // Whether the windings alone keep the mesh from being read.
+    pub fn is_inside_out(&self) -> bool {
+        [TURNED, MIXED].contains(&self.name)
+    }
+}
+
 // The meshes to split.
 pub fn to_split(size: usize) -> Vec<Mesh> {
     let mut random = Random::new();
@@ -39,7 +47,7 @@ pub fn to_split(size: usize) -> Vec<Mesh> {
 pub fn to_undo(size: usize) -> Vec<Mesh> {
     let mut random = Random::new();
     let splittings = of_each_kind(size / 4, &mut random).map(|mesh| split_of(&mesh));
-    let others = [odd_torus(size)].into_iter().chain(refused(size)).chain(turned_torus(size));
+    let others = [odd_torus(size)].into_iter().chain(refused(size)).chain(inside_out(size));
     in_both_orders(splittings.into_iter().chain(others), &mut random)
 }
 
@@ -57,8 +65,8 @@ pub struct Several {
     pub levels: usize,
 }
 
-// The meshes to undo several levels of: as deep as can be, of one level, after which `refused` and `turned` are refused late, or of
-// none.
+// The meshes to undo several levels of: as deep as can be, of one level, after which `refused`, `turned` and `mixed` are refused late,
+// or of none.
 pub fn to_undo_several(size: usize) -> Vec<Several> {
     let mut random = Random::new();
     let coarse = size / 4;
@@ -68,7 +76,7 @@ pub fn to_undo_several(size: usize) -> Vec<Several> {
         .into_iter()
         .chain(once.map(|first| (first, 1)))
         .chain([(odd_torus(size), 0)])
-        .chain(turned_torus(coarse).map(|first| (first, 1)));
+        .chain(inside_out(coarse).into_iter().map(|first| (first, 1)));
     let both = |(first, levels): (Mesh, usize)| {
         let orders = in_both_orders([split_times(&first, levels)], &mut random);
         orders.into_iter().map(move |mesh| Several { mesh, first: first.clone(), levels })
@@ -129,16 +137,21 @@ fn odd_torus(triangles: usize) -> Mesh {
     torus_of("odd", wide - 1, high)
 }
 
-// One whose last triangle is turned. Each role has a reading but for that: all four are tried to the end. Behind a torus of fewer than
-// 256 triangles, which is at most four vertices high, there is none.
-fn turned_torus(triangles: usize) -> Option<Mesh> {
+// One whose last triangle is turned, and one of which each is turned or not by chance. Each role has a reading but for that: all four
+// are tried to the end. Behind a torus of fewer than 256 triangles, which is at most four vertices high, there is none.
+fn inside_out(triangles: usize) -> Vec<Mesh> {
     if triangles < 256 {
-        return None;
+        return Vec::new();
     }
-    let mut mesh = Mesh { name: TURNED, ..torus(triangles) };
-    let last = mesh.list.len() - 3;
-    mesh.list[last + 1..].reverse();
-    Some(mesh)
+    let mut random = Random::new();
+    vec![turned_torus(TURNED, triangles, |k| k == triangles - 1), turned_torus(MIXED, triangles, |_| random.below(2) == 0)]
+}
+
+fn turned_torus(name: &'static str, triangles: usize, mut is_turned: impl FnMut(usize) -> bool) -> Mesh {
+    let mut mesh = Mesh { name, ..torus(triangles) };
+    let turned = mesh.list.chunks_exact_mut(3).enumerate().filter(|&(k, _)| is_turned(k));
+    turned.for_each(|(_, three)| three[1..].reverse());
+    mesh
 }
 
 // Of a torus of so many triangles that is twice as wide as high.

@@ -1,6 +1,5 @@
--- Three vertices, arranged and put in order: they stay the same vertices, and three different ones have only one
--- order. Three vertices, rotated: each is followed by what follows it in the others. A triangle's vertices are the three
--- at its corners.
+-- Three vertices, rotated: each is followed by what follows it in the others. Different vertices are the same if they are
+-- rotated in the one turning or in the other. A triangle's vertices are the three at its corners.
 use Prim.Native.Nat.{ℕ, _+_, _*_, _%_, _≤_, _<_}
 use native.Mathlib.Omega.{arith}
 use mathlib.Core.Path.{_≡_, _∙_, refl, sym, ap, subst}
@@ -10,102 +9,8 @@ use Rattle.theory.specs.Mesh.{at, On, Same, Rotated}
 use Rattle.theory.proofs.Splitting.{by-three}
 use Rattle.lists.proofs.Lists.{by-eq}
 use Rattle.undo_compare.specs.Compared.{Apart, OneOf, first, second, third, SameThree}
-use Rattle.undo_compare.specs.Compared.{Arranged, same, front, back, Ordered}
 use Rattle.undo_compare.specs.Compared.{RotatedThree, never, once, twice}
 use Rattle.undo_compare.specs.Compared.{Follows, afterFirst, afterSecond, afterLast}
-
--- ---- arranged vertices are the same
-
--- swapped neighbours are the same vertices
-one-front : {p q r v : ℕ} → OneOf p q r v → OneOf q p r v
-one-front first = second
-one-front second = first
-one-front third = third
-
-one-back : {p q r v : ℕ} → OneOf p q r v → OneOf p r q v
-one-back first = first
-one-back second = third
-one-back third = second
-
--- so arranged ones are
-arranged-one : {a b c p q r v : ℕ} → Arranged a b c p q r → OneOf a b c v → OneOf p q r v
-arranged-one same o = o
-arranged-one (front s) o = one-front (arranged-one s o)
-arranged-one (back s) o = one-back (arranged-one s o)
-
-one-arranged : {a b c p q r v : ℕ} → Arranged a b c p q r → OneOf p q r v → OneOf a b c v
-one-arranged same o = o
-one-arranged (front s) o = one-arranged s (one-front o)
-one-arranged (back s) o = one-arranged s (one-back o)
-
--- different vertices stay different
-arranged-apart : {a b c p q r : ℕ} → Arranged a b c p q r → Apart a b c → Apart p q r
-arranged-apart same d = d
-arranged-apart (front s) d =
-    let e = arranged-apart s d in record { xy = λ z. e .xy (sym z); yz = λ z. e .zx (sym z); zx = λ z. e .yz (sym z) }
-arranged-apart (back s) d =
-    let e = arranged-apart s d in record { xy = λ z. e .zx (sym z); yz = λ z. e .yz (sym z); zx = λ z. e .xy (sym z) }
-
--- and the first two may be swapped before
-swapped-arranged : {a b c p q r : ℕ} → Arranged b a c p q r → Arranged a b c p q r
-swapped-arranged same = front same
-swapped-arranged (front s) = front (swapped-arranged s)
-swapped-arranged (back s) = back (swapped-arranged s)
-
-pub swapped-ordered : {a b c p q r : ℕ} → Ordered b a c p q r → Ordered a b c p q r
-swapped-ordered O = record { low = O .low; high = O .high; arranged = swapped-arranged (O .arranged) }
-
--- ---- vertices in order
-
--- each of three in order is at least the first and at most the last
-one-between : {p q r v : ℕ} → p ≤ q → q ≤ r → OneOf p q r v → (p ≤ v) × (v ≤ r)
-one-between l h first = (omega arith, omega arith)
-one-between l h second = (l, h)
-one-between l h third = (omega arith, omega arith)
-
--- three whose first and last are those of three different ones have the middle one between them
-one-middle : {p q r s t u : ℕ} → Apart s t u → p ≡ s → r ≡ u → OneOf p q r t → q ≡ t
-one-middle d e f first = absurd (d .xy (sym e))
-one-middle d e f second = refl
-one-middle d e f third = absurd (d .yz f)
-
-module _ {a b c p q r x y z s t u : ℕ} (O : Ordered a b c p q r) (R : Ordered x y z s t u) where
-  -- the same vertices in order are the same three, if those of the second are different
-  pub ordered-unique : Apart x y z → SameThree a b c x y z → (p ≡ s) × (q ≡ t) × (r ≡ u)
-  ordered-unique d e = (low, one-middle (arranged-apart (R .arranged) d) low high (back′ second), high)
-    where
-      there′ : {v : ℕ} → OneOf p q r v → OneOf s t u v
-      there′ o = arranged-one (R .arranged) (e .there _ (one-arranged (O .arranged) o))
-
-      back′ : {v : ℕ} → OneOf s t u v → OneOf p q r v
-      back′ o = arranged-one (O .arranged) (e .back _ (one-arranged (R .arranged) o))
-
-      low : p ≡ s
-      low = omega (
-        arith,
-        one-between (R .low) (R .high) (there′ first) .0,
-        one-between (O .low) (O .high) (back′ first) .0,
-      )
-
-      high : r ≡ u
-      high = omega (
-        arith,
-        one-between (R .low) (R .high) (there′ third) .1,
-        one-between (O .low) (O .high) (back′ third) .1,
-      )
-
-  -- and the same three in order are the same vertices
-  pub ordered-same : p ≡ s → q ≡ t → r ≡ u → SameThree a b c x y z
-  ordered-same e f g = record {
-    there = λ v o. one-arranged (R .arranged) (moved (arranged-one (O .arranged) o));
-    back = λ v o. one-arranged (O .arranged) (moved′ (arranged-one (R .arranged) o));
-  }
-    where
-      moved : {v : ℕ} → OneOf p q r v → OneOf s t u v
-      moved o = rw (← e, ← f, ← g) o
-
-      moved′ : {v : ℕ} → OneOf s t u v → OneOf p q r v
-      moved′ o = rw (e, f, g) o
 
 -- ---- rotated vertices
 
@@ -161,6 +66,65 @@ module _ {x y z : ℕ} (d : Apart x y z) where
   followers-rotated (afterSecond _ e) B C f g h = rotated-next e f (g ∙ after-last f B)
   followers-rotated (afterLast _ _) B C f g h =
       let last = g ∙ after-first f B in rotated-last (h ∙ after-second last C) f last
+
+-- ---- the same vertices
+
+-- of three vertices the first may be put last, and the last two may be swapped
+one-round : {a b c v : ℕ} → OneOf a b c v → OneOf b c a v
+one-round first = third
+one-round second = first
+one-round third = second
+
+one-swapped : {a b c v : ℕ} → OneOf a b c v → OneOf a c b v
+one-swapped first = first
+one-swapped second = third
+one-swapped third = second
+
+-- so rotated vertices are the same
+pub rotated-same : {a b c x y z : ℕ} → RotatedThree a b c x y z → SameThree a b c x y z
+rotated-same never = record { there = λ v o. o; back = λ v o. o }
+rotated-same once = record { there = λ v o. one-round o; back = λ v o. one-round (one-round o) }
+rotated-same twice = record { there = λ v o. one-round (one-round o); back = λ v o. one-round o }
+
+-- and so are vertices that are rotated in the other turning
+pub reversed-same : {a b c x y z : ℕ} → RotatedThree a c b x y z → SameThree a b c x y z
+reversed-same o =
+    let same = rotated-same o in
+    record { there = λ v p. same .there v (one-swapped p); back = λ v p. one-swapped (same .back v p) }
+
+-- different vertices stay different as the first is put last, and what is rotated stays so
+apart-round : {x y z : ℕ} → Apart x y z → Apart y z x
+apart-round d = record { xy = d .yz; yz = d .zx; zx = d .xy }
+
+rotated-round : {a b c x y z : ℕ} → RotatedThree a b c y z x → RotatedThree a b c x y z
+rotated-round never = twice
+rotated-round once = never
+rotated-round twice = once
+
+-- three different vertices that begin as three others do, and are among these, are these or have the last two swapped
+first-alike : {a b c y z : ℕ} → Apart a y z → OneOf a b c y → OneOf a b c z → (RotatedThree a b c a y z → ⊥)
+    → RotatedThree a c b a y z
+first-alike d first q n = absurd (d .xy refl)
+first-alike d second first n = absurd (d .zx refl)
+first-alike d second second n = absurd (d .yz refl)
+first-alike d second third n = absurd (n never)
+first-alike d third first n = absurd (d .zx refl)
+first-alike d third second n = never
+first-alike d third third n = absurd (d .yz refl)
+
+-- so the same vertices, if they are different and not rotated, are rotated in the other turning
+pub same-reversed : {a b c x y z : ℕ} → Apart x y z → SameThree a b c x y z → (RotatedThree a b c x y z → ⊥)
+    → RotatedThree a c b x y z
+same-reversed d same n = begun d (same .there _ first) (same .back _ first) (same .back _ second) (same .back _ third) n
+  where
+    begun : {a b c x y z : ℕ} → Apart x y z → OneOf x y z a → OneOf a b c x → OneOf a b c y → OneOf a b c z
+        → (RotatedThree a b c x y z → ⊥) → RotatedThree a c b x y z
+    begun d first o p q n = first-alike d p q n
+    begun d second o p q n = rotated-round (first-alike (apart-round d) q o (λ r. n (rotated-round r)))
+    begun d third o p q n =
+        rotated-round
+        (rotated-round
+        (first-alike (apart-round (apart-round d)) o p (λ r. n (rotated-round (rotated-round r)))))
 
 -- ---- the vertices of a triangle
 

@@ -1,5 +1,5 @@
 -- The comparison of triangles: what `compare` says of all of them, `compare_one` of one, `compare_three` of three
--- vertices and three others, and `same_vertices` of these as sets, which `ordered` puts in order.
+-- vertices and three others, and `same_vertices` of these as sets.
 use Prim.Native.Nat.{ℕ, _+_, _*_, _/_, _≤_, _<_, min}
 use mathlib.Core.Path.{_≡_}
 use mathlib.Core.Logic.{_≢_}
@@ -101,15 +101,3 @@ pub data ComparedThree (a b c x y z : ℕ) : Turning → Type 0 where
   rotated : RotatedThree a b c x y z → ComparedThree a b c x y z turning.Rotated
   reversed : SameThree a b c x y z → (RotatedThree a b c x y z → ⊥) → ComparedThree a b c x y z turning.Reversed
   other : (SameThree a b c x y z → ⊥) → ComparedThree a b c x y z turning.Other
-
--- The vertices a, b, c in another order: neighbours are swapped, as often as it takes.
-pub data Arranged (a b c : ℕ) : ℕ → ℕ → ℕ → Type 0 where
-  same : Arranged a b c a b c
-  front : {p q r : ℕ} → Arranged a b c p q r → Arranged a b c q p r
-  back : {p q r : ℕ} → Arranged a b c p q r → Arranged a b c p r q
-
--- The same, in order: p, q, r.
-pub record Ordered (a b c p q r : ℕ) : Type 0 where
-  pub low : p ≤ q
-  pub high : q ≤ r
-  pub arranged : Arranged a b c p q r

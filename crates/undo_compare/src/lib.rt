@@ -2,12 +2,11 @@
 // and by its vertices. It takes time linear in the triangles, and assumes nothing.
 use lists::at;
 use lists::lesser;
-ghost use Prim.Native.Nat.{_≤_};
 ghost use mathlib.Core.Path.{_≡_};
 ghost use Rattle.theory.specs.Reading.{renamed};
 ghost use Rattle.lists.specs.Decides.{Decides};
 ghost use Rattle.undo_compare.specs.Compared.{CompareLent, Compared, turnedWith, OneLent, ComparedOne};
-ghost use Rattle.undo_compare.specs.Compared.{Apart, ComparedThree, RotatedThree, Follows, SameThree, Ordered};
+ghost use Rattle.undo_compare.specs.Compared.{Apart, ComparedThree, RotatedThree, Follows, SameThree};
 
 // How the triangles of a list compare, under the maps, with their own of the splitting: each is a rotation of its own;
 // or each has the vertices of its own, and the one named is the least that is no rotation; or one has other vertices.
@@ -23,9 +22,6 @@ enum Turning {
     Reversed,
     Other,
 }
-
-// Three vertices in order.
-struct Three(u16, u16, u16);
 
 // Compares each of the triangles, under the vertex map `vertices`, with its triangle of `splitting`, which the triangle
 // map `faces` names. It stops at the first that has other vertices. `turned` is the least so far that is the other way
@@ -130,42 +126,13 @@ fn follower(v: u16, x: u16, y: u16, z: u16) -> u16
     x
 }
 
-// Whether a, b, c are the vertices x, y, z, which are different.
+// Whether a, b, c are the vertices x, y, z, which are different: these are rotated, in the one turning or in the other.
 fn same_vertices(a: u16, b: u16, c: u16, x: u16, y: u16, z: u16) -> bool
     requires { ⌜ Apart x y z ⌝ }
     ensures { λ r. ⌜ Decides (SameThree a b c x y z) r ⌝ }
 {
-    let one = ordered(a, b, c);
-    let other = ordered(x, y, z);
-    if one.0 != other.0 {
-        return false;
+    if rotated(a, b, c, x, y, z) {
+        return true;
     }
-    if one.1 != other.1 {
-        return false;
-    }
-    one.2 == other.2
-}
-
-// Three vertices, put in order.
-fn ordered(a: u16, b: u16, c: u16) -> Three
-    ensures { λ r. ⌜ Ordered a b c (r .0) (r .1) (r .2) ⌝ }
-{
-    if b < a {
-        return ordered_last(b, a, c);
-    }
-    ordered_last(a, b, c)
-}
-
-// Three vertices, put in order where the first two are.
-fn ordered_last(a: u16, b: u16, c: u16) -> Three
-    requires { ⌜ a ≤ b ⌝ }
-    ensures { λ r. ⌜ Ordered a b c (r .0) (r .1) (r .2) ⌝ }
-{
-    if b <= c {
-        return Three(a, b, c);
-    }
-    if a <= c {
-        return Three(a, c, b);
-    }
-    Three(c, a, b)
+    rotated(a, c, b, x, y, z)
 }

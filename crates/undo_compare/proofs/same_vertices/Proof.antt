@@ -1,55 +1,41 @@
--- `undo_compare::same_vertices` meets its contract: in order, the same vertices are the same three, one by one.
+-- `undo_compare::same_vertices` meets its contract: vertices that are not rotated are the same if they are rotated with two
+-- of them swapped.
 use Prim.Native.Nat.{ℕ}
-use mathlib.Core.Path.{_≡_}
-use mathlib.Core.Bool.{false}
-use lib.Dec.{eqb}
+use native.Mathlib.Omega.{arith}
+use mathlib.Core.Path.{_≡_, refl}
+use mathlib.Core.Bool.{Bool, false}
 use borrow.Author.Needs.{needs}
-use borrow.Author.Tests.{eqb-true, eq-eqb}
 use Rattle.lists.specs.Decides.{Decides}
-use Rattle.undo_compare.specs.Compared.{Apart, SameThree, Ordered}
-use Rattle.lists.proofs.Decides.{decides-not}
-use Rattle.undo_compare.proofs.Threes.{ordered-unique, ordered-same}
+use Rattle.undo_compare.specs.Compared.{Apart, RotatedThree, SameThree}
+use Rattle.lists.proofs.Decides.{decides-moved, decided-not}
+use Rattle.undo_compare.proofs.Threes.{rotated-same, reversed-same, same-reversed}
 use Rattle.undo_compare.proofs.same_vertices.Statement.{statement}
 use Rattle.undo_compare.proofs.same_vertices.Tie as tie
 
-module _ {a b c p q r x y z s t u : ℕ} (O : Ordered a b c p q r) (R : Ordered x y z s t u) (d : Apart x y z) where
-  -- where the three are not equal, the vertices are not the same
-  unequal : ((p ≡ s) × (q ≡ t) × (r ≡ u) → ⊥) → Decides (SameThree a b c x y z) false
-  unequal n = decides-not (λ e. n (ordered-unique O R d e))
+-- where a, b, c are not rotated, and p, q, r are these with the last two swapped, whether p, q, r are rotated decides
+swapped-decides : {a b c p q r x y z : ℕ} {answer other : Bool} → Apart x y z → Decides (RotatedThree a b c x y z) answer
+    → answer ≡ false → Decides (RotatedThree p q r x y z) other → p ≡ a → q ≡ c → r ≡ b
+    → Decides (SameThree a b c x y z) other
+swapped-decides d D n E e f g =
+    decides-moved (λ o. reversed-same (rw (← e, ← f, ← g) o))
+    (λ same. rw (e, f, g) (same-reversed d same (decided-not D n))) E
 
-  -- where the first two are equal, the last test decides
-  decided : p ≡ s → q ≡ t → Decides (SameThree a b c x y z) (eqb r u)
-  decided e f = record {
-    sound = λ g. ordered-same O R e f (eqb-true r u g);
-    complete = λ g. eq-eqb r u (ordered-unique O R d g .2);
-  }
-
-ordered-requires : tie.Need-ordered-requires
-ordered-requires c κs = search needs
-
-ordered-requires-2 : tie.Need-ordered-requires-2
-ordered-requires-2 c κs = search needs
+rotated-requires : tie.Need-rotated-requires
+rotated-requires c κs = search needs
 
 returns : tie.Need-returns
 returns c =
-    let both = c .before .before .before in
-    unequal (both .before .ordered .ensures) (both .ordered2 .ensures) (both .before .before .pre)
-    (λ e. c .if1 .taken (e .0))
+    let same = rotated-same (c .before .rotated .ensures .sound (c .if1 .taken)) in
+    record { sound = λ _. same; complete = λ _. refl }
+
+rotated-requires-2 : tie.Need-rotated-requires-2
+rotated-requires-2 c κs = search needs
 
 returns-2 : tie.Need-returns-2
 returns-2 c =
-    let both = c .before .before .before .before .before .before in
-    unequal (both .before .ordered .ensures) (both .ordered2 .ensures) (both .before .before .pre)
-    (λ e. c .if2 .taken (e .1))
-
-returns-3 : tie.Need-returns-3
-returns-3 c =
-    let second = c .before .before in
-    let first = second .before .before .before in
-    let both = first .before .before .before in
-    decided (both .before .ordered .ensures) (both .ordered2 .ensures) (both .before .before .pre) (first .if1 .left)
-    (second .if2 .left)
+    let first = c .before in
+    swapped-decides (first .before .before .pre) (first .before .rotated .ensures) (first .if1 .left)
+    (c .rotated2 .ensures) (omega arith) (omega arith) (omega arith)
 
 pub same-vertices-spec : {M : Type 1} → statement M
-same-vertices-spec =
-    tie.close (tie.spec ordered-requires ordered-requires-2 returns returns-2 returns-3)
+same-vertices-spec = tie.close (tie.spec rotated-requires returns rotated-requires-2 returns-2)
