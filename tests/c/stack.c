@@ -17,17 +17,17 @@ enum { STACK = 32 * 1024, PAINT = 0xA5, ENTRIES = 3 * FLATCAROL_MOST_TRIANGLES }
 
 static uint64_t stack[STACK / 8];
 
-/* Makes a call with the stack pointer at an address, and puts it back in between two instructions. The register that
-   remembers it is one that every function leaves as it was. */
-static void call_on(void *top, void (*make)(void))
+/* Makes a call with the stack pointer at an address, and puts it back afterwards. Meanwhile it is kept in a register that
+   every function leaves as it was. */
+static void switch_and_call(void *top, void (*make)(void))
 {
 #if defined(__x86_64__)
     __asm__ volatile("movq %%rsp, %%rbx\n\tmovq %0, %%rsp\n\tcall *%1\n\tmovq %%rbx, %%rsp"
                      :
                      : "r"(top), "r"(make)
-                     : "rax", "rbx", "rcx", "rdx", "rsi", "rdi", "r8", "r9", "r10", "r11", "xmm0", "xmm1", "xmm2", "xmm3",
-                       "xmm4", "xmm5", "xmm6", "xmm7", "xmm8", "xmm9", "xmm10", "xmm11", "xmm12", "xmm13", "xmm14",
-                       "xmm15", "memory", "cc");
+                     : "rax", "rbx", "rcx", "rdx", "rsi", "rdi", "r8", "r9", "r10", "r11", "xmm0", "xmm1", "xmm2",
+                       "xmm3", "xmm4", "xmm5", "xmm6", "xmm7", "xmm8", "xmm9", "xmm10", "xmm11", "xmm12", "xmm13",
+                       "xmm14", "xmm15", "memory", "cc");
 #else
     __asm__ volatile("mov x19, sp\n\tmov sp, %0\n\tblr %1\n\tmov sp, x19"
                      :
@@ -39,9 +39,9 @@ static void call_on(void *top, void (*make)(void))
 #endif
 }
 
-/* Compilers do not see that a function is called in there, and what it writes. Of one behind this pointer they must
+/* Compilers do not see that a function is called in there, nor what it writes. Of one behind this pointer they must
    expect anything. */
-static void (*volatile const made_on)(void *, void (*)(void)) = call_on;
+static void (*volatile const call_on)(void *, void (*)(void)) = switch_and_call;
 
 /* How many bytes of its stack a call uses. The stack grows downwards. */
 static size_t stack_of(void (*make)(void))
@@ -50,7 +50,7 @@ static size_t stack_of(void (*make)(void))
     for (size_t i = 0; i < STACK; i++) {
         bytes[i] = PAINT;
     }
-    made_on(bytes + (STACK - (uintptr_t)bytes % 16), make); /* both kinds ask for a multiple of 16 */
+    call_on(bytes + (STACK - (uintptr_t)bytes % 16), make); /* both kinds ask for a multiple of 16 */
     size_t unused = 0;
     while (unused < STACK && bytes[unused] == PAINT) {
         unused++;

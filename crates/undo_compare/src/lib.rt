@@ -126,7 +126,7 @@ fn follower(v: u16, x: u16, y: u16, z: u16) -> u16
     x
 }
 
-// Whether a, b, c are the vertices x, y, z, which are different: these are rotated, in the one turning or in the other.
+// Whether a, b, c are the vertices x, y, z, which are different: these rotated, as they stand or with two swapped.
 fn same_vertices(a: u16, b: u16, c: u16, x: u16, y: u16, z: u16) -> bool
     requires { ⌜ Apart x y z ⌝ }
     ensures { λ r. ⌜ Decides (SameThree a b c x y z) r ⌝ }

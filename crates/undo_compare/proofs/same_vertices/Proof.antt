@@ -1,5 +1,5 @@
--- `undo_compare::same_vertices` meets its contract: vertices that are not rotated are the same if they are rotated with two
--- of them swapped.
+-- `undo_compare::same_vertices` meets its contract: vertices that are not rotated are the same if they are rotated with
+-- two of them swapped.
 use Prim.Native.Nat.{ℕ}
 use native.Mathlib.Omega.{arith}
 use mathlib.Core.Path.{_≡_, refl}
