@@ -23,8 +23,8 @@
  *   do.
  * - Work buffers may hold anything before a call, and are zero after it, over all of their length.
  * - Nothing is allocated, and there is no global state: calls may run at the same time in several threads, each with
- *   buffers of its own. A list or bytes that are only read may be shared. No call takes more than 7 KiB of stack;
- *   docs/CALLS.md has what each takes.
+ *   buffers of its own. A list or bytes that are only read may be shared. A call takes at most 8 KiB of stack, as
+ *   measured; docs/CALLS.md has what each takes.
  */
 #ifndef FLATCAROL_H
 #define FLATCAROL_H

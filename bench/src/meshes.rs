@@ -31,7 +31,7 @@ pub struct Mesh {
 }
 
 impl Mesh {
-    // Whether the windings alone keep the mesh from being read.
+    // Whether the windings alone keep the mesh from being read, or that of which it is a splitting.
     pub fn is_inside_out(&self) -> bool {
         [TURNED, MIXED].contains(&self.name)
     }

@@ -1,11 +1,11 @@
 /*
- * How much stack each call takes. It runs on a stack of its own, which is painted before; what has lost its paint was
- * used. That includes what the caller itself needs for the call, its arguments and the answer.
+ * How much stack each call takes, in the forms with one block of work. It runs on a stack of its own, which is painted
+ * before; what has lost its paint was used. That includes what the caller itself needs for the call, its arguments and
+ * the answer.
  *
- * Prints the most bytes that each call took over all meshes that are tried, and what went wrong, if anything did: a call
- * that takes more than docs/CALLS.md says, or meshes that no longer lead everywhere. It is C99, and of the C library it
- * needs printf alone, which it declares: so it can be compiled for the other kind of machine too, without that one's
- * headers.
+ * Prints the most bytes that each call took over all that is tried, in one line, and what went wrong, if anything did: a
+ * call that takes more than docs/CALLS.md says, or inputs that no longer lead everywhere. It is C99, and of the C library it needs
+ * printf alone, which it declares: so it can be compiled for the other kind of machine too, without that one's headers.
  */
 #include "flatcarol.h"
 
@@ -128,9 +128,9 @@ typedef struct call {
 enum { SPLIT, UNDO_ONE, UNDO_SEVERAL, WRITE_FRAMES, READ_FRAMES, WRITE_INDEX, READ_INDEX, CALLS };
 
 static call calls[CALLS] = {
-    {"split", make_split, 768, 0},
-    {"undo one", make_undo_one, 1536, 0},
-    {"undo several", make_undo_several, 7168, 0},
+    {"split", make_split, 1024, 0},
+    {"undo one", make_undo_one, 2048, 0},
+    {"undo several", make_undo_several, 8192, 0},
     {"write frames", make_write_frames, 512, 0},
     {"read frames", make_read_frames, 512, 0},
     {"write index", make_write_index, 512, 0},
@@ -145,27 +145,43 @@ static void try_call(size_t which)
     }
 }
 
-/* ---- meshes that lead everywhere */
+/* ---- inputs that lead everywhere */
 
-static unsigned refused_by = 0; /* a bit for each refusal that undo one gave, and for its acceptance */
+static unsigned answered = 0; /* a bit for each refusal that undo one and the readers gave, and for acceptance */
 static uint64_t most_levels = 0;
+
+static void try_reader(size_t which)
+{
+    try_call(which);
+    answered |= 1u << frames.refusal;
+}
+
+/* Tries to read a text of so many bytes, without its last ones too, and with a byte that is wrong in every text. */
+static void try_text(size_t reader, size_t len)
+{
+    text_len = len;
+    try_reader(reader);
+    text_len = len - 3;
+    try_reader(reader);
+    text_len = len;
+    text[len / 2] = '?';
+    try_reader(reader);
+}
 
 /* Tries all calls. Split comes last, so that its result stays in `out`. */
 static void try_mesh(void)
 {
     for (asked = 0; asked <= FLATCAROL_ANY_ROLE; asked++) {
         try_call(UNDO_ONE);
-        refused_by |= 1u << one.refusal;
+        answered |= 1u << one.refusal;
     }
     asked = FLATCAROL_MOST_LEVELS;
     try_call(UNDO_SEVERAL);
     most_levels = several.levels > most_levels ? several.levels : most_levels;
     try_call(WRITE_FRAMES);
-    text_len = 11 + 5 * entries;
-    try_call(READ_FRAMES);
+    try_text(READ_FRAMES, 11 + 5 * entries);
     try_call(WRITE_INDEX);
-    text_len = written.bytes;
-    try_call(READ_INDEX);
+    try_text(READ_INDEX, written.bytes);
     try_call(SPLIT);
 }
 
@@ -260,16 +276,19 @@ int main(void)
     }
     try_meshes();
     for (size_t i = 0; i < CALLS; i++) {
-        printf("stack of %s: %zu bytes\n", calls[i].name, calls[i].took);
+        printf("%s%s %zu", i == 0 ? "" : ", ", calls[i].name, calls[i].took);
+    }
+    printf("\n");
+    for (size_t i = 0; i < CALLS; i++) {
         if (calls[i].took > calls[i].most) {
             wrong = 1;
-            printf("wrong: docs/CALLS.md says at most %zu\n", calls[i].most);
+            printf("wrong: %s takes %zu, docs/CALLS.md says at most %zu\n", calls[i].name, calls[i].took, calls[i].most);
         }
     }
-    /* 0, 6 to 11 and 15; 1 to 5 are given before a mesh is looked at */
-    if (refused_by != (1u | 0x3Fu << 6 | 1u << 15) || most_levels != FLATCAROL_MOST_LEVELS) {
+    /* 0, 6 to 12, 14 and 15; 1 to 5 are given before a mesh is looked at */
+    if (answered != (1u | 0x7Fu << 6 | 3u << 14) || most_levels != FLATCAROL_MOST_LEVELS) {
         wrong = 1;
-        printf("wrong: the meshes were refused by %x and had up to %u levels\n", refused_by, (unsigned)most_levels);
+        printf("wrong: the refusals had the bits %x and the meshes up to %u levels\n", answered, (unsigned)most_levels);
     }
     return wrong;
 }
