@@ -252,7 +252,7 @@ static void turn_one(void)
 
 static void try_meshes(void)
 {
-    for (size_t i = 0; i < 1000; i++) {
+    for (size_t i = 0; i < 200; i++) {
         take_any();
         try_mesh();
         if (take_splitting()) {
