@@ -110,7 +110,7 @@ enum flatcarol_refusal {
     FLATCAROL_NOT_CONNECTED = 10,   /* not connected to triangle 0; place: least triangle */
     FLATCAROL_NO_READING = 11,      /* no reading in the role asked (asked 4: in any) */
     FLATCAROL_WRONG_FRAME = 12,     /* a frame not as required; place: least such line, from 0 */
-    FLATCAROL_INPUT_TOO_LONG = 13,  /* program input above 16,384 bytes: given by the program unsplit, by no call */
+    FLATCAROL_INPUT_TOO_LONG = 13,  /* program input above 16,396 bytes: given by the program unsplit, by no call */
     FLATCAROL_WRONG_TEXT = 14,      /* text not of this form, a corner above 65,535 or a face not of three corners;
                                        place: first byte of the first run at fault, or the text's length if corners
                                        are missing */
@@ -136,7 +136,7 @@ static inline const char *flatcarol_refusal_text(uint64_t refusal)
     case FLATCAROL_NOT_CONNECTED: return "not connected to triangle 0";
     case FLATCAROL_NO_READING: return "no reading in the role asked (asked 4: in any)";
     case FLATCAROL_WRONG_FRAME: return "a frame not as required";
-    case FLATCAROL_INPUT_TOO_LONG: return "program input above 16,384 bytes";
+    case FLATCAROL_INPUT_TOO_LONG: return "program input above 16,396 bytes";
     case FLATCAROL_WRONG_TEXT: return "text not of this form, a corner above 65,535 or a face not of three corners";
     case FLATCAROL_INSIDE_OUT: return "a triangle inside out: a reading only if winding is ignored";
     default: return "no refusal has this number";
@@ -256,14 +256,15 @@ flatcarol_several_answer flatcarol_undo_several(
     uint16_t *work9, size_t work9_len,
     uint16_t *work10, size_t work10_len);
 
-/* Reads a mesh from its frames. The corners, which are not judged, go to the first entries of out, which needs 3F with
-   the F of the first line. Refusals 12 for the first line, then 4 and 5, then 12 for later lines. */
+/* Reads a mesh from its frames. Digits may be of either case, and each line may end in LF or CR LF. The corners, which
+   are not judged, go to the first entries of out, which needs 3F with the F of the first line. Refusals 12 for the first
+   line, then 4 and 5, then 12 for later lines. */
 flatcarol_frames_answer flatcarol_read_frames(
     const uint8_t *bytes, size_t bytes_len,
     uint16_t *out, size_t out_len);
 
-/* Writes a mesh, which may have no triangle and whose corners are not judged, as frames. They go to the first bytes of
-   out, which needs 11 + 15F. Refusals 2, 4 and 5. */
+/* Writes a mesh, which may have no triangle and whose corners are not judged, as frames, in upper case and with LF. They
+   go to the first bytes of out, which needs 11 + 15F. Refusals 2, 4 and 5. */
 flatcarol_frames_answer flatcarol_write_frames(
     uint64_t vertices,
     const uint16_t *list, size_t list_len,

@@ -5,7 +5,7 @@ use std::hint::black_box;
 use crate::hashed;
 use crate::library::{self, Answer, FramesAnswer, OneAnswer, OneOutputs, SeveralAnswer, TextAnswer};
 use crate::library::{OneWork, SeveralWork, SplitWork};
-use crate::meshes::{self, frames, index_text, index_texts, Mesh, Several, MADE_IN_ORDER, SIZES};
+use crate::meshes::{self, frame_texts, frames, index_text, index_texts, Mesh, Several, Spelling, MADE_IN_ORDER, SIZES};
 use crate::plain;
 
 type Split = fn(u64, &[u16], &mut [u16], &mut SplitWork) -> Answer;
@@ -46,8 +46,8 @@ pub const MOST_LEVELS: u64 = 7;
 pub const SPLIT: &str = "split";
 pub const UNDO_ONE: &str = "undo one";
 pub const UNDO_SEVERAL: &str = "undo several";
-const READ_FRAMES: &str = "read frames";
-const WRITE_FRAMES: &str = "write frames";
+pub const READ_FRAMES: &str = "read frames";
+pub const WRITE_FRAMES: &str = "write frames";
 const READ_INDEX: &str = "read index";
 const WRITE_INDEX: &str = "write index";
 pub const CALLS: [&str; 7] = [SPLIT, UNDO_ONE, UNDO_SEVERAL, READ_FRAMES, WRITE_FRAMES, READ_INDEX, WRITE_INDEX];
@@ -78,7 +78,7 @@ pub fn of_size(size: usize) -> Vec<Case> {
     let undo_severals = meshes::to_undo_several(size).into_iter().map(|several| undo_several(several.mesh));
     let meshes = splits.chain(undo_ones).chain(undo_severals);
     let written = meshes::to_write(size);
-    let frames = written.iter().map(read_frames).chain(written.iter().map(write_frames));
+    let frames = written.iter().flat_map(read_frames).chain(written.iter().map(write_frames));
     let index = written.iter().flat_map(read_index).chain(written.iter().map(write_index));
     meshes.chain(frames).chain(index).collect()
 }
@@ -133,8 +133,8 @@ fn undo_several(mesh: Mesh) -> Case {
     })
 }
 
-fn read_frames(mesh: &Mesh) -> Case {
-    read(READ_FRAMES, mesh, &frames(mesh), |version, _, bytes, out| {
+fn read_frames(mesh: &Mesh) -> [Case; 3] {
+    read(READ_FRAMES, mesh, frame_texts(mesh), |version, _, bytes, out| {
         black_box(FRAME_READS[version](bytes, out));
     })
 }
@@ -145,13 +145,9 @@ fn write_frames(mesh: &Mesh) -> Case {
     })
 }
 
-// A case for each spelling.
 fn read_index(mesh: &Mesh) -> [Case; 2] {
-    index_texts(mesh).map(|(name, text)| {
-        let case = read(READ_INDEX, mesh, &text, |version, vertices, text, out| {
-            black_box(INDEX_READS[version](vertices, text, out));
-        });
-        Case { mesh: name, ..case }
+    read(READ_INDEX, mesh, index_texts(mesh), |version, vertices, text, out| {
+        black_box(INDEX_READS[version](vertices, text, out));
     })
 }
 
@@ -161,10 +157,12 @@ fn write_index(mesh: &Mesh) -> Case {
     })
 }
 
-// A case of a call that reads a mesh from a text.
-fn read(call: &'static str, mesh: &Mesh, text: &[u8], run: Run<u8, Vec<u16>>) -> Case {
-    let out = vec![LENT; mesh.list.len()];
-    Case { bytes: Some(text.len()), ..case(call, OF_TEXTS, mesh, text, out, run) }
+// The cases of a call that reads a mesh from a text, one for each spelling.
+fn read<const N: usize>(call: &'static str, mesh: &Mesh, texts: [Spelling; N], run: Run<u8, Vec<u16>>) -> [Case; N] {
+    texts.map(|(name, text)| {
+        let out = vec![LENT; mesh.list.len()];
+        Case { mesh: name, bytes: Some(text.len()), ..case(call, OF_TEXTS, mesh, &text, out, run) }
+    })
 }
 
 // A case of a call that writes a mesh as a text, over the same text.

@@ -89,21 +89,47 @@ pub fn to_write(size: usize) -> Vec<Mesh> {
     in_both_orders([torus(size)], &mut Random::new())
 }
 
-// The frames of a mesh, by the formatting of the standard library.
+// A text of a mesh in one spelling, by the name that the mesh then has.
+pub type Spelling = (&'static str, Vec<u8>);
+
+// The frames of a mesh in the normal spelling, by the formatting of the standard library.
 pub fn frames(mesh: &Mesh) -> Vec<u8> {
     let lines = mesh.list.chunks_exact(3).map(|t| format!("46{:04X}{:04X}{:04X}\n", t[0], t[1], t[2]));
     [format!("4D{:04X}{:04X}\n", mesh.vertices, mesh.list.len() / 3)].into_iter().chain(lines).collect::<String>().into_bytes()
 }
 
-// The index text of a mesh in the normal spelling, by the same.
+// The frames of a mesh that are read: the normal spelling; all in lower case with CR LF, as some apps write it; and the case of each
+// digit and the end of each line by chance.
+pub fn frame_texts(mesh: &Mesh) -> [Spelling; 3] {
+    let normal = frames(mesh);
+    let lower = respelt(&normal, || true);
+    let mut random = Random::new();
+    let either = respelt(&normal, || random.below(2) == 0);
+    [(mesh.name, normal), ("lower", lower), ("either", either)]
+}
+
+// The same frames with lower case instead of upper and CR LF instead of LF, wherever it is said so.
+fn respelt(frames: &[u8], mut is_changed: impl FnMut() -> bool) -> Vec<u8> {
+    let mut respelt = Vec::new();
+    for &byte in frames {
+        match byte {
+            _ if !is_changed() => respelt.push(byte),
+            b'\n' => respelt.extend(b"\r\n"),
+            _ => respelt.push(byte.to_ascii_lowercase()),
+        }
+    }
+    respelt
+}
+
+// The index text of a mesh in the normal spelling, by the formatting of the standard library.
 pub fn index_text(mesh: &Mesh) -> Vec<u8> {
     let faces = mesh.list.chunks_exact(3).map(|t| format!("{} {} {} -1", t[0], t[1], t[2]));
     faces.collect::<Vec<_>>().join(" ").into_bytes()
 }
 
-// The index texts of a mesh that are read, each by the name that the mesh then has: the normal spelling, and one as exporters
-// write it, with a comment at the head, commas, and a line for each face.
-pub fn index_texts(mesh: &Mesh) -> [(&'static str, Vec<u8>); 2] {
+// The index texts of a mesh that are read: the normal spelling, and one as exporters write it, with a comment at the head, commas,
+// and a line for each face.
+pub fn index_texts(mesh: &Mesh) -> [Spelling; 2] {
     let lines = mesh.list.chunks_exact(3).map(|t| format!("\t{}, {}, {}, -1,\n", t[0], t[1], t[2]));
     let exported = [format!("# {} vertices\n", mesh.vertices)].into_iter().chain(lines).collect::<String>().into_bytes();
     [(mesh.name, index_text(mesh)), ("exported", exported)]

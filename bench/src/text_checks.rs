@@ -1,7 +1,7 @@
 // The checks of the calls that read a mesh from a text and write it as one: frames and index texts.
 use crate::cases::{FRAME_READS, FRAME_WRITES, INDEX_READS, INDEX_WRITES, LENT, NAMES};
 use crate::library::{FramesAnswer, TextAnswer};
-use crate::meshes::{frames, index_text, index_texts, Mesh, MOST};
+use crate::meshes::{frame_texts, frames, index_text, index_texts, Mesh, MOST};
 
 // No hash map of edges has a part in them.
 const VERSIONS: std::ops::Range<usize> = 0..FRAME_READS.len();
@@ -11,8 +11,9 @@ const ROOM: usize = 8;
 
 pub fn check_text_refusals() {
     check_read_frames_refusals();
+    check_frame_spellings();
     check_read_index_refusals();
-    check_spellings();
+    check_index_spellings();
     check_write_refusals();
 }
 
@@ -30,7 +31,9 @@ fn check_frames(version: usize, mesh: &Mesh) {
     let answer = FRAME_WRITES[version](mesh.vertices as u64, &mesh.list, &mut written);
     assert_eq!(answer, accepted(mesh.vertices as u64, &mesh.list), "{}", NAMES[version]);
     assert!(written == bytes, "{} writes other frames", NAMES[version]);
-    check_read_back(version, mesh, |out| FRAME_READS[version](&bytes, out));
+    for (_, bytes) in frame_texts(mesh) {
+        check_read_back(version, mesh, |out| FRAME_READS[version](&bytes, out));
+    }
 }
 
 fn check_index(version: usize, mesh: &Mesh) {
@@ -51,29 +54,73 @@ fn check_read_back(version: usize, mesh: &Mesh, read: impl FnOnce(&mut [u16]) ->
     assert!(out == mesh.list, "{} reads another mesh", NAMES[version]);
 }
 
-// What reading frames refuses, each with its place, and the frames that are just accepted.
+// What reading frames refuses, each with its place, and the frames that are just accepted. A wrong end is the fault of its own line,
+// and what comes after LF that of the next.
 fn check_read_frames_refusals() {
-    const MESH: &str = "4D00030002\n";
-    const LINE: &str = "46000000010002\n";
-    let two = [MESH, LINE, LINE].concat();
-    let cases = [
-        (two.clone(), 0, 0),
-        ("4D7FFF0000\n".into(), 0, 0),
-        ("".into(), 12, 0),
-        ("4D00030002".into(), 12, 0),
-        ("4d00030002\n".into(), 12, 0),
-        ("4D80000000\n".into(), 4, 0),
-        ("4D00034001\n".into(), 4, 0),
-        ("4D00030003\n".to_string() + &LINE.repeat(3), 5, 0),
-        ([MESH, LINE].concat(), 12, 2),
-        ([MESH, LINE, &LINE[..14]].concat(), 12, 2),
-        ([MESH, "4600000001000a\n", LINE].concat(), 12, 1),
-        ([MESH, LINE, "47000000010002\n"].concat(), 12, 2),
-        (two + "\n", 12, 3),
+    const MESH: &str = "4D00030002";
+    const LINE: &str = "46000000010002";
+    const CR_LF: &str = "\r\n";
+    let three = ["4D00030003\n", LINE, "\n", LINE, "\n", LINE, "\n"];
+    let cases: [(&[&str], u64, u64); 39] = [
+        (&[MESH, "\n", LINE, "\n", LINE, "\n"], 0, 0),
+        (&[MESH, CR_LF, LINE, CR_LF, LINE, CR_LF], 0, 0),
+        (&[MESH, CR_LF, LINE, "\n", LINE, "\n"], 0, 0),
+        (&[MESH, "\n", LINE, "\n", LINE, CR_LF], 0, 0),
+        (&["4D7FFF0000\n"], 0, 0),
+        (&[], 12, 0),
+        (&[MESH], 12, 0),
+        (&[MESH, "\r"], 12, 0),
+        (&[MESH, "\r\r\n", LINE, "\n", LINE, "\n"], 12, 0),
+        (&[MESH, "\r", LINE, "\n", LINE, "\n"], 12, 0),
+        (&[CR_LF, MESH, CR_LF, LINE, CR_LF, LINE, CR_LF], 12, 0),
+        (&["4600030002\n"], 12, 0),
+        (&["4G00030002\n"], 12, 0),
+        (&["4D0003000G\n"], 12, 0),
+        (&["4D0003000g\n"], 12, 0),
+        (&["4D80000000\r\r\n"], 12, 0),
+        (&["4D80000000\n"], 4, 0),
+        (&["4d80000000\r\n"], 4, 0),
+        (&["4D00034001\n"], 4, 0),
+        (&three, 5, 0),
+        (&["4D00030003\n\r"], 5, 0),
+        (&["4D7FFF0000\n\r"], 12, 1),
+        (&["4D7FFF0000\r\n\n"], 12, 1),
+        (&[MESH, "\n", LINE, "\n"], 12, 2),
+        (&[MESH, "\n", LINE, "\n", LINE], 12, 2),
+        (&[MESH, "\n", LINE, "\n", LINE, "\r"], 12, 2),
+        (&[MESH, "\n", LINE, "\r", LINE, "\n"], 12, 1),
+        (&[MESH, "\n", LINE, "\r\r\n", LINE, "\n"], 12, 1),
+        (&[MESH, "\n", LINE, "\n\r\n", LINE, "\n"], 12, 2),
+        (&[MESH, "\n", "4600000001000G\n", LINE, "\n"], 12, 1),
+        (&[MESH, "\n", "4600000001000g\n", LINE, "\n"], 12, 1),
+        (&[MESH, "\n", "4600\r0000010002\n", LINE, "\n"], 12, 1),
+        (&[MESH, "\n", "4600\r000010002\n", LINE, "\n"], 12, 1),
+        (&[MESH, "\n", "4\r\n6000000010002\n", LINE, "\n"], 12, 1),
+        (&[MESH, "\n", LINE, "\n", "47000000010002\n"], 12, 2),
+        (&[MESH, "\n", LINE, "\n", LINE, "\n\n"], 12, 3),
+        (&[MESH, "\n", LINE, "\n", LINE, "\n\r"], 12, 3),
+        (&[MESH, CR_LF, LINE, CR_LF, LINE, CR_LF, CR_LF], 12, 3),
+        (&[MESH, CR_LF, LINE, CR_LF, LINE, CR_LF, LINE, CR_LF], 12, 3),
     ];
     for version in VERSIONS {
-        for (text, refusal, place) in &cases {
-            check_judged(version, text, (*refusal, *place), |out| FRAME_READS[version](text.as_bytes(), out));
+        for (parts, refusal, place) in cases {
+            let text = parts.concat();
+            check_judged(version, &text, (refusal, place), |out| FRAME_READS[version](text.as_bytes(), out));
+        }
+    }
+}
+
+// Frames that have each digit in each case, and the corners that they have.
+fn check_frame_spellings() {
+    let cases: [(u64, &str, &[u16]); 4] = [
+        (0x7fff, "4D7FFF0000\n", &[]),
+        (0x7fff, "4d7fFf0000\r\n", &[]),
+        (9, "4D00090002\r\n460123456789AB\n46CDEFabcdef00\r\n", &[0x0123, 0x4567, 0x89ab, 0xcdef, 0xabcd, 0xef00]),
+        (9, "4d00090001\n46aBcDEf00Ffe1\r\n", &[0xabcd, 0xef00, 0xffe1]),
+    ];
+    for version in VERSIONS {
+        for (vertices, text, corners) in cases {
+            check_corners(version, text, (vertices, corners), |out| FRAME_READS[version](text.as_bytes(), out));
         }
     }
 }
@@ -131,7 +178,7 @@ fn check_judged(version: usize, text: &str, judged: (u64, u64), read: impl FnOnc
 }
 
 // Index texts that no mesh of the benchmark has, and the corners that they have, which need not be less than the vertices.
-fn check_spellings() {
+fn check_index_spellings() {
     let cases: [(&str, &[u16]); 10] = [
         ("", &[]),
         (" \t\r\n,", &[]),
@@ -146,14 +193,19 @@ fn check_spellings() {
     ];
     for version in VERSIONS {
         for (text, corners) in cases {
-            let mut out = [LENT; ROOM];
-            let answer = INDEX_READS[version](9, text.as_bytes(), &mut out);
-            assert_eq!(answer, accepted(9, corners), "{} reads {text:?}", NAMES[version]);
-            let (read, behind) = out.split_at(corners.len());
-            assert_eq!(read, corners, "{} reads {text:?}", NAMES[version]);
-            assert!(behind.iter().all(|&entry| entry == LENT), "{} reads {text:?}: writes after the corners", NAMES[version]);
+            check_corners(version, text, (9, corners), |out| INDEX_READS[version](9, text.as_bytes(), out));
         }
     }
+}
+
+// That a mesh is read, and nothing written after its corners.
+fn check_corners(version: usize, text: &str, mesh: (u64, &[u16]), read: impl FnOnce(&mut [u16]) -> FramesAnswer) {
+    let (vertices, corners) = mesh;
+    let mut out = [LENT; ROOM];
+    assert_eq!(read(&mut out), accepted(vertices, corners), "{} reads {text:?}", NAMES[version]);
+    let (written, rest) = out.split_at(corners.len());
+    assert_eq!(written, corners, "{} reads {text:?}", NAMES[version]);
+    assert!(rest.iter().all(|&entry| entry == LENT), "{} reads {text:?}: writes after the corners", NAMES[version]);
 }
 
 // What both ways of writing refuse, each mesh with the room for its frames and for its index text. Where it is accepted there is

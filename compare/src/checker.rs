@@ -7,6 +7,7 @@ use reference::{OneRoom, Search};
 
 use crate::calls::Calls;
 use crate::cover::{Call, Cover};
+use crate::frames;
 use crate::guarded::{Buffer, Entry, Side};
 use crate::meshes::Mesh;
 use crate::random::Random;
@@ -176,6 +177,31 @@ impl<'a> Checker<'a> {
         self.read(Call::ReadFrames, bytes, length, expected, |calls, input, out| calls.read_frames(input, out))
     }
 
+    // The beginnings of a text, each alone.
+    pub fn read_cut_frames(&mut self, text: &[u8], length: usize) -> Checked {
+        if read_by_reference(text).is_some() {
+            self.cover.cut(text);
+        }
+        (0..text.len()).try_for_each(|end| self.read_frames(&text[..end], length))
+    }
+
+    // Of a text that is read: what was read is written in the normal spelling, and that is read as the same and written as it is.
+    pub fn write_read_frames(&mut self, text: &[u8]) -> Checked {
+        let Some(mesh) = read_by_reference(text) else { return Ok(()) };
+        let normal = frames::normal(text);
+        self.cover.spelling(text, &normal);
+        if read_by_reference(&normal).as_ref() != Some(&mesh) {
+            return Err(format!("the reference does not read {} as it reads its normal spelling", shown_bytes(text)));
+        }
+        for spelling in [text, &normal] {
+            self.read_frames(spelling, mesh.list.len())?;
+            self.write_frames(&mesh, normal.len())?;
+            as_written("what is written", &self.bytes, &normal, &normal)
+                .map_err(|what| format!("read frames, and write them again, of {}:\n{what}", shown_bytes(spelling)))?;
+        }
+        Ok(())
+    }
+
     pub fn read_index(&mut self, vertices: u64, text: &[u8], length: usize) -> Checked {
         let expected = reference::read_index(vertices, text, length);
         self.read(Call::ReadIndex, text, length, expected, |calls, input, out| calls.read_index(vertices, input, out))
@@ -302,6 +328,12 @@ fn answer_of(answer: reference::Answer) -> Answer {
 fn frames_answer_of(answer: reference::FramesAnswer) -> FramesAnswer {
     let reference::FramesAnswer { refusal, place, vertices, triangles } = answer;
     FramesAnswer { refusal, place, vertices, triangles }
+}
+
+// What the reference reads, if it accepts the text.
+fn read_by_reference(text: &[u8]) -> Option<Mesh> {
+    let (answer, list) = reference::read_frames(text, usize::MAX);
+    (answer.refusal == 0).then_some(Mesh { vertices: answer.vertices, list })
 }
 
 fn expected_one(mesh: &Mesh, asked: u64, room: &Room, search: Search) -> Outcome<OneAnswer> {

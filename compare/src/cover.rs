@@ -31,6 +31,9 @@ const COUNTING: [Call; 3] = [Call::Split, Call::UndoOne, Call::UndoSeveral];
 // What a resulting mesh may have. Some ways to miscount show in one of these alone.
 const SORTS: [&str; 4] = ["no boundary edge", "boundary edges", "singular edges", "singular edges and no boundary edge"];
 
+// What a text of frames that is read may be or have.
+const SPELLINGS: [&str; 6] = ["the normal spelling", "another", "lower case", "CR LF", "both cases", "both line ends"];
+
 // The refusals' numbers, and 0 for acceptance.
 const NUMBERS: usize = 16;
 
@@ -84,6 +87,10 @@ pub struct Cover {
     passed_over: u64,
     // Where undo several stopped though the old rule has a reading: before the first level, and after it.
     stopped: [u64; 2],
+    // Texts of frames that were read and written again, by their spelling.
+    spellings: [u64; SPELLINGS.len()],
+    // Texts of frames that are right, and were cut at every place: with LF alone, and with CR LF.
+    cut: [u64; 2],
     // Undos for which the reference's two searches were compared with each other.
     both_searches: u64,
     // By set and kind.
@@ -132,6 +139,19 @@ impl Cover {
         self.stopped[usize::from(levels > 0)] += 1;
     }
 
+    pub fn spelling(&mut self, text: &[u8], normal: &[u8]) {
+        let count = |is_counted: fn(&u8) -> bool| text.iter().filter(|byte| is_counted(byte)).count();
+        let (upper, lower) = (count(u8::is_ascii_uppercase), count(u8::is_ascii_lowercase));
+        let (returns, lines) = (count(|&byte| byte == b'\r'), count(|&byte| byte == b'\n'));
+        let is_normal = text == normal;
+        let sorts = [is_normal, !is_normal, lower > 0, returns > 0, upper.min(lower) > 0, returns.min(lines - returns) > 0];
+        add_each(&mut self.spellings, &sorts.map(u64::from));
+    }
+
+    pub fn cut(&mut self, text: &[u8]) {
+        self.cut[usize::from(text.contains(&b'\r'))] += 1;
+    }
+
     pub fn both_searches(&mut self) {
         self.both_searches += 1;
     }
@@ -150,6 +170,8 @@ impl Cover {
         add_each(&mut self.roles_of_levels, &other.roles_of_levels);
         add_each(&mut self.inside_out, &other.inside_out);
         add_each(&mut self.stopped, &other.stopped);
+        add_each(&mut self.spellings, &other.spellings);
+        add_each(&mut self.cut, &other.cut);
         self.passed_over += other.passed_over;
         self.both_searches += other.both_searches;
         for (kind, count) in other.cases {
@@ -193,6 +215,12 @@ impl Cover {
         for (levels, count) in ["no level", "a level"].iter().zip(self.stopped) {
             expect(count, format!("{levels} undone, and then 15"));
         }
+        for (spelling, count) in SPELLINGS.iter().zip(self.spellings) {
+            expect(count, format!("a text of frames that is read: {spelling}"));
+        }
+        for (end, count) in ["LF", "CR LF"].iter().zip(self.cut) {
+            expect(count, format!("a text of frames with {end}, cut at every place"));
+        }
         expect(self.both_searches, "an undo by both searches".into());
         for kind in kinds {
             expect(self.cases.get(kind).copied().unwrap_or(0), format!("{}: {}", kind.0, kind.1));
@@ -227,6 +255,8 @@ impl Display for Cover {
         writeln!(f, "undone 0 to 7 levels: {:?}, in roles 0 to 3: {:?}", self.levels, self.roles_of_levels)?;
         writeln!(f, "refused 15, asked 0 to 4: {:?}; lesser roles passed over: {}", self.inside_out, self.passed_over)?;
         writeln!(f, "stopped several at 15, at once and after a level: {:?}", self.stopped)?;
+        writeln!(f, "texts of frames read with {}: {:?}", SPELLINGS.join(", "), self.spellings)?;
+        writeln!(f, "texts of frames cut at every place, with LF alone and with CR LF: {:?}", self.cut)?;
         write!(f, "undos by both of the reference's searches: {}", self.both_searches)
     }
 }

@@ -38,22 +38,18 @@ pub struct Sizes {
 pub fn all(sizes: &Sizes) -> Vec<Set> {
     vec![
         Set { name: "documents", cases: document::MESHES, kind: |number| document::named(number).name, check: check_document },
-        Set { name: "frames", cases: sizes.frames, kind: frames_kind, check: check_frames },
+        Set { name: "frames", cases: sizes.frames, kind: |number| frames::kind(number).name, check: check_frames },
         Set { name: "index", cases: sizes.index, kind: index_kind, check: check_index },
         Set { name: "shapes", cases: sizes.small / 30, kind: |number| shape(number).name, check: check_shape },
         Set { name: "small", cases: sizes.small, kind: mesh_kind, check: check_small },
         Set { name: "boundaries", cases: boundaries::CASES, kind: |_| "of every number", check: boundaries::check },
         Set { name: "large", cases: sizes.large, kind: mesh_kind, check: check_large },
-        Set { name: program::SET, cases: sizes.programs, kind: |_| "inputs", check: |checker, _| program::check(checker) },
+        Set { name: program::SET, cases: sizes.programs, kind: |number| program::kind(number).name, check: program::check },
     ]
 }
 
 fn mesh_kind(number: usize) -> &'static str {
     kinds::KINDS[number % kinds::KINDS.len()].name
-}
-
-fn frames_kind(number: usize) -> &'static str {
-    frames::KINDS[number % frames::KINDS.len()].name
 }
 
 fn index_kind(number: usize) -> &'static str {
@@ -141,12 +137,12 @@ fn lengths_around(random: &mut Random, entries: usize) -> [usize; 4] {
     [entries, entries + random.between(1, 9), entries.saturating_sub(random.between(1, 4)), 0]
 }
 
-// A text with its damage in buffers of several lengths; and of a few short ones, cut at every place.
+// A text of a kind in buffers of several lengths, a few short ones cut at every place; and what is read written again.
 fn check_frames(checker: &mut Checker, number: usize) -> Checked {
     let random = &mut checker.random;
     let triangles = triangles_of_text(random);
     let mesh = frames::any_corners(random, triangles);
-    let text = (frames::KINDS[number % frames::KINDS.len()].make)(random, frames::text(&mesh));
+    let text = frames::of_kind(random, number, frames::text(&mesh));
     let entries = 3 * frames::triangles_said(&text);
     for length in lengths_around(random, entries) {
         checker.read_frames(&text, length)?;
@@ -155,15 +151,13 @@ fn check_frames(checker: &mut Checker, number: usize) -> Checked {
     for length in [bytes, bytes + 3, bytes - 1] {
         checker.write_frames(&mesh, length)?;
     }
-    if triangles <= 3 && number.is_multiple_of(16) {
-        for end in 0..text.len() {
-            checker.read_frames(&text[..end], entries)?;
-        }
+    if triangles <= 3 && checker.random.one_in(16) {
+        checker.read_cut_frames(&text, entries)?;
     }
-    Ok(())
+    checker.write_read_frames(&text)
 }
 
-// The same of index texts.
+// The same of index texts, but that they are not written again.
 fn check_index(checker: &mut Checker, number: usize) -> Checked {
     let random = &mut checker.random;
     let triangles = triangles_of_text(random);

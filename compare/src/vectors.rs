@@ -3,6 +3,7 @@
 use std::fmt::Write;
 
 use crate::document::{three_cones, torus, Named, INSIDE_OUT, STARRED};
+use crate::frames;
 use crate::index;
 use crate::kinds::KINDS;
 use crate::meshes::{self, Mesh};
@@ -13,6 +14,8 @@ const BY_HAND: &str = include_str!("../../reference/tests/by_hand.txt");
 const SEED: u64 = 1;
 const GENERATED: usize = 330;
 const GENERATED_INDEX_TEXTS: usize = 260;
+// Each in every spelling and with every damage.
+const GENERATED_FRAMES: usize = 4;
 
 // Greater numbers are wrong in cases.
 const GREATEST: u64 = 18_446_744_073_709_551_609;
@@ -69,6 +72,14 @@ impl Text {
         self.asked("6", asked);
     }
 
+    fn read_frames(&mut self, room: usize, frames: &str) {
+        self.line(&format!("8 {room} {}\n{frames}", frames.len()));
+    }
+
+    fn write_frames(&mut self) {
+        self.line("9");
+    }
+
     fn read_index(&mut self, vertices: u64, room: usize, index_text: &str) {
         self.line(&format!("10 {vertices} {room} {}\n{index_text}", index_text.len()));
     }
@@ -94,6 +105,9 @@ pub fn text() -> String {
     edges(&mut text);
     inside_out(&mut text);
     generated(&mut text);
+    frames_by_bytes(&mut text);
+    frames_by_ends(&mut text);
+    frames_generated(&mut text);
     index_by_bytes(&mut text);
     index_by_numbers(&mut text);
     index_generated(&mut text);
@@ -213,6 +227,43 @@ fn generated(text: &mut Text) {
                 text.split(1);
                 text.take_several([1, 7]);
             }
+        }
+    }
+}
+
+// Every sign in three places: as a digit, before LF, and after CR.
+fn frames_by_bytes(text: &mut Text) {
+    text.comment("---- frames: every byte below 128");
+    for sign in '\0'..='\x7f' {
+        text.read_frames(0, &format!("4D0{sign}000000\n"));
+        text.read_frames(0, &format!("4D00000000{sign}\n"));
+        text.read_frames(0, &format!("4D00000000\r{sign}"));
+    }
+}
+
+// Both line ends and others at each line, beside lines with LF and with CR LF.
+fn frames_by_ends(text: &mut Text) {
+    text.comment("---- frames: line ends");
+    let lines = frames::text(&Mesh::new(0xAB, &[0xCD, 0xE, 0xF, 0x1A2B, 0xC3D4, 0xE5F6]));
+    for lines in [frames::with_returns(&lines), lines] {
+        for (line, end) in (0..3).flat_map(|line| ["\n", "\r\n"].iter().chain(frames::OTHER_ENDS).map(move |end| (line, end))) {
+            text.read_frames(6, &String::from_utf8_lossy(&frames::with_end(&lines, line, end)));
+        }
+    }
+}
+
+// Texts of every kind but those that are no UTF-8; then the present mesh, which may be what was read, is written.
+fn frames_generated(text: &mut Text) {
+    text.comment("---- frames, generated");
+    for number in 0..GENERATED_FRAMES {
+        let mut random = Random::of_case(SEED, 2, number);
+        text.spare(number % 3);
+        let mesh = frames::any_corners(&mut random, number);
+        for kind in 0..frames::KINDS {
+            let Ok(spelling) = String::from_utf8(frames::of_kind(&mut random, kind, frames::text(&mesh))) else { continue };
+            text.comment(frames::kind(kind).name);
+            text.read_frames((mesh.list.len() + 4).saturating_sub(random.below(6)), &spelling);
+            text.write_frames();
         }
     }
 }

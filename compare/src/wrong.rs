@@ -65,9 +65,21 @@ faults! {
     // In buffers.
     EntryTooMany,
     ReadsPastTheList,
-    // In frames.
-    LowerCaseRead,
+    // In the digits of frames.
+    NeighbourReadAsADigit,
+    LowerCaseRefused,
+    LowerCaseReadAsAnother,
+    LowerCaseKindRefused,
+    CasesMustAgree,
+    LowerCaseWritten,
+    // In the line ends of frames.
     LastLineWithoutEnd,
+    ReturnRefused,
+    ReturnEndsALine,
+    TwoReturnsEndALine,
+    ReturnAfterTheLastIgnored,
+    LineEndsMustAgree,
+    WrongEndAtTheNextLine,
     // In index texts.
     NumbersWrap,
     CommentsEndAtLineFeedOnly,
@@ -358,6 +370,40 @@ impl Wrong {
         }
     }
 
+    // What frames are taken for, if it is not what they are.
+    fn misread(&self, bytes: &[u8]) -> Option<Vec<u8>> {
+        let each = |change: fn(u8) -> u8| Some(bytes.iter().map(|&byte| change(byte)).collect());
+        match self.0 {
+            Fault::NeighbourReadAsADigit => each(|byte| if byte == b'g' { b'0' } else { byte }),
+            Fault::LowerCaseRefused => each(|byte| if byte.is_ascii_lowercase() { b'g' } else { byte }),
+            // But for the first line's kind.
+            Fault::LowerCaseReadAsAnother => {
+                let mut text = bytes.to_vec();
+                text.iter_mut().skip(2).filter(|byte| (b'a'..=b'f').contains(byte)).for_each(|byte| *byte -= b'a' - b'0');
+                Some(text)
+            }
+            Fault::LowerCaseKindRefused => bytes.strip_prefix(b"4d").map(|rest| [b"4g", rest].concat()),
+            Fault::CasesMustAgree => {
+                let first = bytes.iter().find(|byte| byte.is_ascii_alphabetic())?;
+                let agrees = |byte: u8| !byte.is_ascii_alphabetic() || byte.is_ascii_lowercase() == first.is_ascii_lowercase();
+                Some(bytes.iter().map(|&byte| if agrees(byte) { byte } else { b'g' }).collect())
+            }
+            Fault::LastLineWithoutEnd => bytes.last().filter(|&&last| last != b'\n').map(|_| [bytes, b"\n"].concat()),
+            Fault::ReturnRefused => Some(replaced(bytes, b"\r\n", b" \n")),
+            Fault::ReturnEndsALine => Some(replaced(&replaced(bytes, b"\r\n", b"\n"), b"\r", b"\n")),
+            Fault::TwoReturnsEndALine => Some(replaced(bytes, b"\r\r\n", b"\n")),
+            Fault::ReturnAfterTheLastIgnored => bytes.ends_with(b"\n\r").then(|| bytes[..bytes.len() - 1].to_vec()),
+            Fault::LineEndsMustAgree => {
+                let mut lines = lines_of(bytes);
+                let first = lines.next()?;
+                let agrees = |line: &[u8]| line.ends_with(b"\r\n") == first.ends_with(b"\r\n");
+                let others = lines.flat_map(|line| if agrees(line) { line.to_vec() } else { [b" ", line].concat() });
+                Some(first.iter().copied().chain(others).collect())
+            }
+            _ => None,
+        }
+    }
+
     fn work_room<const N: usize>(&self, vertices: u64, list: &[u16], work: &Work<N>) -> Vec<(usize, u64)> {
         let needed = vertices.saturating_add(list.len() as u64 / 3 * 3);
         let judged = if self.has(Fault::OneWorkBufferNotJudged) { N - 1 } else { N };
@@ -456,17 +502,19 @@ impl Calls for Wrong {
 
     // The library's own, but for their faults.
     fn read_frames(&self, bytes: &[u8], out: &mut [u16]) -> FramesAnswer {
-        match self.0 {
-            Fault::LowerCaseRead => Library.read_frames(&bytes.to_ascii_uppercase(), out),
-            Fault::LastLineWithoutEnd if bytes.last().is_some_and(|&last| last != b'\n') => {
-                Library.read_frames(&[bytes, b"\n"].concat(), out)
-            }
-            _ => Library.read_frames(bytes, out),
+        let mut answer = Library.read_frames(self.misread(bytes).as_deref().unwrap_or(bytes), out);
+        if self.has(Fault::WrongEndAtTheNextLine) && answer.refusal == 12 && is_end_wrong(bytes, answer.place as usize) {
+            answer.place += 1;
         }
+        answer
     }
 
     fn write_frames(&self, vertices: u64, list: &[u16], out: &mut [u8]) -> FramesAnswer {
-        Library.write_frames(vertices, list, out)
+        let answer = Library.write_frames(vertices, list, out);
+        if self.has(Fault::LowerCaseWritten) && answer.refusal == 0 {
+            out[..11 + 15 * answer.triangles as usize].make_ascii_lowercase();
+        }
+        answer
     }
 
     fn read_index(&self, vertices: u64, text: &[u8], out: &mut [u16]) -> FramesAnswer {
@@ -490,6 +538,26 @@ impl Calls for Wrong {
         }
         answer
     }
+}
+
+fn lines_of(frames: &[u8]) -> impl Iterator<Item = &[u8]> {
+    frames.split_inclusive(|&byte| byte == b'\n')
+}
+
+// Whether the line that is at fault has all of its digits.
+fn is_end_wrong(frames: &[u8], line: usize) -> bool {
+    let digits = lines_of(frames).nth(line).and_then(|frame| frame.get(..if line == 0 { 10 } else { 14 }));
+    digits.is_some_and(|digits| digits.iter().all(u8::is_ascii_hexdigit))
+}
+
+fn replaced(text: &[u8], old: &[u8], new: &[u8]) -> Vec<u8> {
+    let (mut rest, mut replaced) = (text, Vec::new());
+    while let [first, others @ ..] = rest {
+        let after = rest.strip_prefix(old);
+        replaced.extend(if after.is_some() { new } else { std::slice::from_ref(first) });
+        rest = after.unwrap_or(others);
+    }
+    replaced
 }
 
 // Each number, if 64 bits have it, as 16 bits have it, spelt in as many digits as before.

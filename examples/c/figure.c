@@ -205,6 +205,16 @@ static void frames_read_and_written(void)
     /* Each line ends in a line feed; there is no zero byte behind the last. */
     fwrite(out, 1, sizeof out, stdout);
 
+    /* A partner app writes lower case and CR LF. That is read as well, and written in the one normal spelling, by which
+       two files of the same mesh are the same bytes. */
+    const char *const partner = "4d000b0001\r\n46000a00000001\r\n";
+    const flatcarol_frames_answer theirs = flatcarol_read_frames((const uint8_t *)partner, strlen(partner), coarse, 3);
+    must_be_accepted(theirs.refusal, theirs.place);
+    const flatcarol_frames_answer ours = flatcarol_write_frames(theirs.vertices, coarse, 3, out, sizeof out);
+    must_be_accepted(ours.refusal, ours.place);
+    printf("a partner's file, written again\n");
+    fwrite(out, 1, sizeof out, stdout);
+
     /* The third line, which is line 2 as lines are counted from 0, gets a wrong kind. */
     bytes[11 + 15 + 1] = '7';
     printf("and with a wrong third line\n");

@@ -1,4 +1,4 @@
-//! An independent implementation of Flatcarol: a plain rendering of document 01, and of the requests 101 to 103 of document 02, to be
+//! An independent implementation of Flatcarol: a plain rendering of document 01, and of the requests 101 to 105 of document 02, to be
 //! checked against them sentence by sentence. It shares no code with the proved library, and is compared with it.
 
 pub mod calls;

@@ -16,8 +16,9 @@ impl Limits {
     pub const ASKED_ONE: u64 = 4;
     /// "Asked at most 0 to 7 levels."
     pub const LEVELS: u64 = 7;
-    /// Refusal 13: "program input above 16,384 bytes".
-    pub const PROGRAM_BYTES: usize = 16_384;
+    /// Refusal 13: document 02, #105: "13 is given above 16,396 bytes", no longer above document 01's 16,384. "A full file of 1,024
+    /// triangles now takes 16,396 bytes", 12 + 16 * 1,024, if each of its lines ends in CR LF.
+    pub const PROGRAM_BYTES: usize = 16_396;
     /// The program "has room for 1,024 triangles".
     pub const PROGRAM_TRIANGLES: usize = 1_024;
     /// The program has room for "1,026 vertices".

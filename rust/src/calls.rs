@@ -221,7 +221,8 @@ pub fn undo_several(
 
 /// Reads a mesh from its frames. `out` needs 3 entries for each triangle that the first line says.
 ///
-/// Corners are not judged: the mesh that was read need not be proper.
+/// Digits may be of either case, and each line may end in LF or CR LF. Corners are not judged: the mesh that was read need not be
+/// proper.
 ///
 /// ```
 /// use flatcarol::{read_frames, Counts};
@@ -241,7 +242,7 @@ pub fn read_frames(bytes: &[u8], out: &mut [u16]) -> Result<Counts, Refusal> {
     counts(answer.refusal, answer.place, answer.vertices, answer.triangles)
 }
 
-/// Writes a mesh as frames. `out` needs 11 bytes, and 15 for each triangle: [`Counts::frame_bytes`].
+/// Writes a mesh as frames, in upper case and with LF. `out` needs 11 bytes, and 15 for each triangle: [`Counts::frame_bytes`].
 ///
 /// ```
 /// use flatcarol::write_frames;

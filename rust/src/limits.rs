@@ -12,7 +12,7 @@ impl Limits {
     /// The most levels that are undone in one call.
     pub const LEVELS: usize = 7;
     /// The most bytes that the program `unsplit` reads.
-    pub const PROGRAM_BYTES: usize = 16_384;
+    pub const PROGRAM_BYTES: usize = 16_396;
     /// The largest corner that an index text may name. One above it is refused with
     /// [`Refusal::TextNotAsRequired`](crate::Refusal::TextNotAsRequired).
     pub const CORNER: usize = 65_535;

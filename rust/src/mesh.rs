@@ -186,6 +186,7 @@ impl Mesh {
     ///
     /// let mesh = Mesh::from_frames(b"4D00030001\n46000000010002\n")?;
     /// assert_eq!(mesh, Mesh::new(3, [0, 1, 2]));
+    /// assert_eq!(Mesh::from_frames(b"4d00030001\r\n46000000010002\r\n")?, mesh);
     /// assert_eq!(Mesh::from_frames(b"4D00030001\n"), Err(Refusal::FrameNotAsRequired { line: 1 }));
     /// # Ok::<(), Refusal>(())
     /// ```

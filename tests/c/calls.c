@@ -185,6 +185,37 @@ static void try_frames(void)
     expect(a.refusal == 4, "too many vertices are not written", 0);
 }
 
+/* Document 02's request 105. */
+static void try_spellings(void)
+{
+    const char *const text = "4d00060004\r\n46000500000003\n46000400010000\r\n46000300000001\n46000200030001\r\n";
+    const char *const letters = "4D00Ef0001\r\n46000a00Bc00dE\n";
+    const uint16_t corners[3] = {0x0A, 0xBC, 0xDE};
+    uint8_t bytes[27];
+    memset(bytes, '7', sizeof bytes);
+
+    lent out = lend(12);
+    flatcarol_frames_answer a = flatcarol_read_frames((const uint8_t *)text, strlen(text), out.entries, out.len);
+    expect(a.refusal == 0 && a.place == 0 && a.vertices == 6 && a.triangles == 4, "either end is read", 0);
+    expect_output(&out, sample, 12, a.refusal, 0);
+
+    out = lend(3);
+    a = flatcarol_read_frames((const uint8_t *)letters, strlen(letters), out.entries, out.len);
+    expect(a.refusal == 0 && a.vertices == 0xEF && a.triangles == 1, "either case is read", 0);
+    expect_output(&out, corners, 3, a.refusal, 0);
+    a = flatcarol_write_frames(a.vertices, corners, 3, bytes, sizeof bytes);
+    expect(a.refusal == 0 && memcmp(bytes, "4D00EF0001\n46000A00BC00DE\n7", 27) == 0, "the normal spelling is written", 0);
+
+    out = lend(3);
+    a = flatcarol_read_frames((const uint8_t *)letters, strlen(letters) - 1, out.entries, out.len);
+    expect(a.refusal == 12 && a.place == 1, "the last line has no end", 0);
+    a = flatcarol_read_frames((const uint8_t *)"4D00000000\r", 11, out.entries, out.len);
+    expect(a.refusal == 12 && a.place == 0, "a CR alone is no end", 0);
+    a = flatcarol_read_frames((const uint8_t *)"4D00000000\n\r", 12, out.entries, out.len);
+    expect(a.refusal == 12 && a.place == 1, "a CR after the last end is refused", 0);
+    expect(all(out.entries, 0, 64, 7), "a refusal writes no entry", 0);
+}
+
 /* Document 02's request 101. */
 static void try_index(void)
 {
@@ -633,6 +664,7 @@ int main(void)
         try_undo_several(shorter);
     }
     try_frames();
+    try_spellings();
     try_index();
     try_last_role();
     try_fields();

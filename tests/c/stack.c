@@ -132,7 +132,7 @@ static call calls[CALLS] = {
     {"undo one", make_undo_one, 2048, 0},
     {"undo several", make_undo_several, 8192, 0},
     {"write frames", make_write_frames, 512, 0},
-    {"read frames", make_read_frames, 512, 0},
+    {"read frames", make_read_frames, 1024, 0},
     {"write index", make_write_index, 512, 0},
     {"read index", make_read_index, 512, 0},
 };

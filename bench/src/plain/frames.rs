@@ -2,7 +2,11 @@
 use crate::library::FramesAnswer;
 use crate::refusals::{frames_answer, judge_read, judge_write_frames, Counts, Refusal};
 
-// The bytes of the first line, and of each of the others.
+// How the first line begins, and each of the others.
+const MESH: &[u8; 2] = b"4D";
+const TRIANGLE: &[u8; 2] = b"46";
+
+// The bytes of these lines as they are written.
 const MESH_LINE: usize = 11;
 const TRIANGLE_LINE: usize = 15;
 
@@ -12,48 +16,60 @@ pub fn read_frames(bytes: &[u8], out: &mut [u16]) -> FramesAnswer {
     frames_answer(read(bytes, out))
 }
 
+// The second loop does not judge again: both would take half as long again.
 fn read(bytes: &[u8], out: &mut [u16]) -> Result<Counts, Refusal> {
-    let (mesh, lines) = bytes.split_at_checked(MESH_LINE).ok_or(Refusal(12, 0))?;
-    let [vertices, triangles] = numbers(mesh, b"4D").ok_or(Refusal(12, 0))?.map(usize::from);
+    let (digits, lines) = judge_line::<8>(bytes, MESH).ok_or(Refusal(12, 0))?;
+    let mut counts = [0; 2];
+    put_numbers(digits, &mut counts);
+    let [vertices, triangles] = counts.map(usize::from);
     judge_read(vertices as u64, triangles, out.len())?;
 
-    if let Some(k) = lines.chunks(TRIANGLE_LINE).take(triangles).position(|line| triangle(line).is_none()) {
-        return Err(Refusal(12, k + 1));
+    let mut left = lines;
+    for k in 1..=triangles {
+        (_, left) = judge_line::<12>(left, TRIANGLE).ok_or(Refusal(12, k))?;
     }
-    if lines.len() != TRIANGLE_LINE * triangles {
-        return Err(Refusal(12, triangles.min(lines.len() / TRIANGLE_LINE) + 1));
+    if !left.is_empty() {
+        return Err(Refusal(12, triangles + 1));
     }
-    for (corners, line) in out.chunks_exact_mut(3).zip(lines.chunks_exact(TRIANGLE_LINE)) {
-        corners.copy_from_slice(&triangle(line).expect("the line was judged"));
+
+    left = lines;
+    for corners in out.chunks_exact_mut(3).take(triangles) {
+        let (_, digits, after) = cut_line::<12>(left).expect("the line was judged");
+        put_numbers(digits, corners);
+        left = after;
     }
     Ok((vertices, triangles))
 }
 
-fn triangle(line: &[u8]) -> Option<[u16; 3]> {
-    numbers(line, b"46")
+// The digits of a line's numbers, if it is as required, and the bytes after it. The digits are judged by `&`, all of them: with a
+// branch for each, as `all` has, a processor would have to foresee which are letters, and a shuffled mesh would take three times
+// as long. A table of 256 entries is no faster.
+fn judge_line<'a, const DIGITS: usize>(bytes: &'a [u8], kind: &[u8; 2]) -> Option<(&'a [u8; DIGITS], &'a [u8])> {
+    let (start, digits, after) = cut_line(bytes)?;
+    let are_digits = digits.iter().fold(true, |are_digits, byte| are_digits & byte.is_ascii_hexdigit());
+    (start.eq_ignore_ascii_case(kind) && are_digits).then_some((digits, after))
 }
 
-// The numbers of four digits on a line that starts so.
-fn numbers<const N: usize>(line: &[u8], kind: &[u8]) -> Option<[u16; N]> {
-    let digits = line.strip_prefix(kind)?.strip_suffix(b"\n")?;
-    if digits.len() != 4 * N {
-        return None;
-    }
-    let mut numbers = [0; N];
-    for (number, digits) in numbers.iter_mut().zip(digits.chunks_exact(4)) {
-        for &digit in digits {
-            *number = 16 * *number + digit_value(digit)?;
-        }
-    }
-    Some(numbers)
-}
-
-fn digit_value(byte: u8) -> Option<u16> {
-    match byte {
-        b'0'..=b'9' => Some(u16::from(byte - b'0')),
-        b'A'..=b'F' => Some(u16::from(byte - b'A') + 10),
+// What stands where a line has its kind and where it has the digits of its numbers, and the bytes after its end.
+fn cut_line<const DIGITS: usize>(bytes: &[u8]) -> Option<(&[u8; 2], &[u8; DIGITS], &[u8])> {
+    let (kind, left) = bytes.split_first_chunk()?;
+    let (digits, left) = left.split_first_chunk()?;
+    match left {
+        [b'\n', after @ ..] | [b'\r', b'\n', after @ ..] => Some((kind, digits, after)),
         _ => None,
     }
+}
+
+// The numbers of four digits each.
+fn put_numbers(digits: &[u8], numbers: &mut [u16]) {
+    for (number, digits) in numbers.iter_mut().zip(digits.chunks_exact(4)) {
+        *number = digits.iter().fold(0, |number, &digit| 16 * number + digit_value(digit));
+    }
+}
+
+// Of a byte that is a digit: its last four bits, and 9 more if it is a letter of either case.
+fn digit_value(digit: u8) -> u16 {
+    u16::from(digit % 16 + 9 * (digit / 64))
 }
 
 // Never inlined, since the library's call is not either.
@@ -62,9 +78,9 @@ pub fn write_frames(vertices: u64, list: &[u16], out: &mut [u8]) -> FramesAnswer
     let triangles = list.len() / 3;
     frames_answer(judge_write_frames(vertices, list.len(), out.len()).map(|()| {
         let (mesh, lines) = out.split_at_mut(MESH_LINE);
-        put_line(mesh, b"4D", &[vertices as u16, triangles as u16]);
+        put_line(mesh, MESH, &[vertices as u16, triangles as u16]);
         for (line, corners) in lines.chunks_exact_mut(TRIANGLE_LINE).zip(list.chunks_exact(3)) {
-            put_line(line, b"46", corners);
+            put_line(line, TRIANGLE, corners);
         }
         (vertices as usize, triangles)
     }))

@@ -1,5 +1,4 @@
 -- Laws for the proofs of the functions.
 pub mod Takes
-pub mod RightLines
 pub mod Triangles
 pub mod Verdicts

@@ -2,139 +2,192 @@
 -- take them.
 use Prim.Native.Nat.{ℕ, zero, suc, _+_, _*_, _/_, _%_, _≤_, _<_}
 use native.Mathlib.Omega.{arith}
-use mathlib.Core.Path.{_≡_, refl, sym, ap, _∙_}
-use mathlib.Core.Bool.{Bool, true, false, _&&_}
+use mathlib.Core.Path.{_≡_, refl, ap, _∙_}
+use mathlib.Core.Bool.{Bool, true, false}
 use mathlib.Core.Option.{Option, none, some}
 use mathlib.Core.List.{List, [], _∷_, _++_, append-nil, append-assoc}
-use borrow.Author.Tests.{le-leb, lt-leb, eq-eqb, ne-eqb, eqb-true}
-use lib.Dec.{leb, eqb}
-use lib.ListN.{length, drop, length-drop}
+use borrow.Author.Tests.{eq-eqb, ne-eqb}
+use lib.Dec.{eqb}
+use lib.ListN.{length, drop, length-drop, drop-of-length-le}
 use Rattle.theory.specs.Mesh.{at}
-use Rattle.theory.specs.Frames.{digit, digitValue, Taken, takeDigits, takeNumbers, takeEnd, takeLine}
-use Rattle.theory.proofs.Frames.{digitValue-digit, digit-digitValue}
-use Rattle.frames_read.specs.Parts.{DigitsLeft, KindLeft, takeKind}
-use Rattle.lists.proofs.Lists.{by-lt, drop-inside}
-
--- ---- digits
-
--- a number that is not within a range does not pass the tests of it
-outside : (low n high : ℕ) → (low ≤ n → high < n) → leb low n && leb n high ≡ false
-outside low n high out =
-    by-lt n low
-    (λ l. rw (lt-leb low n l))
-    (λ l. rw (le-leb low n l, lt-leb n high (out l)))
-
--- a byte that is neither 0 to 9 nor A to F is no digit
-pub digitValue-wrong : (byte : ℕ) → (48 ≤ byte → 57 < byte) → (65 ≤ byte → 70 < byte) → digitValue byte ≡ none
-unfolding digitValue
-digitValue-wrong byte low high = cc (outside 48 byte 57 low, outside 65 byte 70 high)
+use Rattle.theory.specs.Frames.{digitValue, Taken, takeDigits, takeNumbers, takeLF, takeEnd, takeLine}
+use Rattle.theory.proofs.Frames.{digit-below, takeDigits-length}
+use Rattle.frames_read.specs.Parts.{DigitTable, DigitGiven, digit, noDigit, DigitsLeft, takeKind}
+use Rattle.lists.proofs.Lists.{drop-inside}
 
 -- ---- numbers
 
--- n digits that are taken are n bytes
-pub takeDigits-length : (n before : ℕ) (bytes : List ℕ) (t : Taken ℕ) → takeDigits n before bytes ≡ some t
-    → length bytes ≡ n + length (t .rest)
-unfolding takeDigits
-takeDigits-length zero before bytes t e =
-    let r : bytes ≡ t .rest = cc in
-    omega (arith, ap length r)
-takeDigits-length (suc n) before [] t e = let z : _≡_ {A = ℕ} 0 1 = cc in absurd (omega arith)
-takeDigits-length (suc n) before (byte ∷ bytes) t e =
-    go (digitValue byte) refl (λ d. takeDigits-length n (16 * before + d) bytes t)
-  where
-    go : (o : Option ℕ) → digitValue byte ≡ o
-        → ((d : ℕ) → takeDigits n (16 * before + d) bytes ≡ some t → length bytes ≡ n + length (t .rest))
-        → length (byte ∷ bytes) ≡ suc n + length (t .rest)
-    go none f others = let z : _≡_ {A = ℕ} 0 1 = cc in absurd (omega arith)
-    go (some d) f others = omega (arith, others d (cc))
-
 module _ (bytes : List ℕ) (i n before : ℕ) where
   -- a byte that is no digit is refused
-  pub takeDigits-wrong : i < length bytes → digitValue (at bytes i) ≡ none
+  takeDigits-wrong : i < length bytes → digitValue (at bytes i) ≡ none
       → takeDigits (suc n) before (drop i bytes) ≡ none
   unfolding takeDigits
   takeDigits-wrong l e = cc (drop-inside bytes i l)
 
   -- a digit is taken, and the others from the next place on
-  pub takeDigits-digit : (d : ℕ) → i < length bytes → digitValue (at bytes i) ≡ some d
+  takeDigits-digit : (d : ℕ) → i < length bytes → digitValue (at bytes i) ≡ some d
       → takeDigits (suc n) before (drop i bytes) ≡ takeDigits n (16 * before + d) (drop (i + 1) bytes)
   unfolding takeDigits
   takeDigits-digit d l e = cc (drop-inside bytes i l)
 
+-- ---- four digits that are tested together
+
+-- a byte that is given as no more than four digits are together is a digit
+is-digit : {byte given : ℕ} → DigitGiven byte given → given ≤ 60 → digitValue byte ≡ some given
+is-digit (digit e) l = e
+is-digit (noDigit e f) l = absurd (omega arith)
+
+-- and below 16
+pub given-digit : {byte given : ℕ} → DigitGiven byte given → given ≤ 60 → given < 16
+given-digit {byte} {given} G l = digit-below byte given (is-digit G l)
+
+-- none is given as more than 78
+pub given-most : {byte given : ℕ} → DigitGiven byte given → given ≤ 78
+given-most {byte} {given} (digit e) = omega (arith, digit-below byte given e)
+given-most (noDigit e f) = omega arith
+
+module _ (bytes : List ℕ) (i : ℕ) where
+  -- a digit is taken, and the others from the next place on
+  step : (next n before d : ℕ) → next ≡ i + 1 → i < length bytes → digitValue (at bytes i) ≡ some d
+      → takeDigits (suc n) before (drop i bytes) ≡ takeDigits n (16 * before + d) (drop next bytes)
+  step next n before d s l e = cc (s, takeDigits-digit bytes i n before d l e)
+
+  -- from a place on, two digits
+  two-digits : (v w : ℕ) → i + 2 ≤ length bytes → digitValue (at bytes i) ≡ some v
+      → digitValue (at bytes (i + 1)) ≡ some w
+      → takeDigits 2 0 (drop i bytes) ≡ some (record { value = 16 * v + w; rest = drop (i + 2) bytes })
+  unfolding takeDigits
+  two-digits v w l e f =
+      let s : i + 1 + 1 ≡ i + 2 = omega arith in
+      let z : 16 * (16 * 0 + v) + w ≡ 16 * v + w = omega arith in
+      step (i + 1) 1 0 v refl (omega arith) e ∙ takeDigits-digit bytes (i + 1) 0 (16 * 0 + v) w (omega arith) f ∙ rw (s, z)
+
+module _ (bytes : List ℕ) (i : ℕ) {a b c d : ℕ} (there : i + 4 ≤ length bytes) (A : DigitGiven (at bytes i) a)
+    (B : DigitGiven (at bytes (i + 1)) b) (C : DigitGiven (at bytes (i + 2)) c) (D : DigitGiven (at bytes (i + 3)) d) where
+  -- the number that four digits are
+  pub number-here : {v : ℕ} → a + b + c + d ≤ 60 → v ≡ 16 * (16 * (16 * a + b) + c) + d
+      → takeDigits 4 0 (drop i bytes) ≡ some (record { value = v; rest = drop (i + 4) bytes })
+  unfolding takeDigits
+  number-here {v} l e =
+      let w : 16 * (16 * (16 * (16 * 0 + a) + b) + c) + d ≡ v = omega arith in
+      step bytes i (i + 1) 3 0 a refl (omega arith) (is-digit A (omega arith))
+      ∙ step bytes (i + 1) (i + 2) 2 _ b (omega arith) (omega arith) (is-digit B (omega arith))
+      ∙ step bytes (i + 2) (i + 3) 1 _ c (omega arith) (omega arith) (is-digit C (omega arith))
+      ∙ step bytes (i + 3) (i + 4) 0 _ d (omega arith) (omega arith) (is-digit D (omega arith))
+      ∙ rw w
+
+  -- where they are together more than digits are, one of them is none
+  pub number-wrong : 60 < a + b + c + d → takeDigits 4 0 (drop i bytes) ≡ none
+  number-wrong l = go A B C D
+    where
+      go : DigitGiven (at bytes i) a → DigitGiven (at bytes (i + 1)) b → DigitGiven (at bytes (i + 2)) c
+          → DigitGiven (at bytes (i + 3)) d → takeDigits 4 0 (drop i bytes) ≡ none
+      go (noDigit e _) p q r = takeDigits-wrong bytes i 3 0 (omega arith) e
+      go (digit e) (noDigit f _) q r =
+          step bytes i (i + 1) 3 0 a refl (omega arith) e ∙ takeDigits-wrong bytes (i + 1) 2 _ (omega arith) f
+      go (digit e) (digit f) (noDigit g _) r =
+          step bytes i (i + 1) 3 0 a refl (omega arith) e
+          ∙ step bytes (i + 1) (i + 2) 2 _ b (omega arith) (omega arith) f
+          ∙ takeDigits-wrong bytes (i + 2) 1 _ (omega arith) g
+      go (digit e) (digit f) (digit g) (noDigit h _) =
+          step bytes i (i + 1) 3 0 a refl (omega arith) e
+          ∙ step bytes (i + 1) (i + 2) 2 _ b (omega arith) (omega arith) f
+          ∙ step bytes (i + 2) (i + 3) 1 _ c (omega arith) (omega arith) g
+          ∙ takeDigits-wrong bytes (i + 3) 0 _ (omega arith) h
+      go (digit e) (digit f) (digit g) (digit h) =
+          absurd (omega (arith, digit-below _ a e, digit-below _ b f, digit-below _ c g, digit-below _ d h))
+
 -- ---- ends
 
 -- there is no end of a line where there are no bytes
-pub takeEnd-missing : (bytes : List ℕ) → length bytes < 1 → takeEnd bytes ≡ none
+takeEnd-missing : (bytes : List ℕ) → length bytes < 1 → takeEnd bytes ≡ none
 unfolding takeEnd
 takeEnd-missing [] l = refl
 takeEnd-missing (byte ∷ bytes) l = absurd (omega arith)
 
 module _ (bytes : List ℕ) (i : ℕ) where
-  -- nor where another byte stands
-  pub takeEnd-wrong : i < length bytes → (at bytes i ≡ 10 → ⊥) → takeEnd (drop i bytes) ≡ none
-  unfolding takeEnd
-  takeEnd-wrong l other = cc (drop-inside bytes i l, ne-eqb (at bytes i) 10 other)
+  -- there is no LF where no byte is left
+  pub takeLF-missing : length bytes ≤ i → takeLF (drop i bytes) ≡ none
+  unfolding takeLF
+  takeLF-missing l = cc (drop-of-length-le bytes l)
 
-  -- the byte 10 ends a line
-  pub takeEnd-here : i < length bytes → at bytes i ≡ 10 → takeEnd (drop i bytes) ≡ some (drop (i + 1) bytes)
+  -- nor where another byte stands
+  pub takeLF-wrong : i < length bytes → (at bytes i ≡ 10 → ⊥) → takeLF (drop i bytes) ≡ none
+  unfolding takeLF
+  takeLF-wrong l other = cc (drop-inside bytes i l, ne-eqb (at bytes i) 10 other)
+
+  -- the byte 10 is LF
+  pub takeLF-here : i < length bytes → at bytes i ≡ 10 → takeLF (drop i bytes) ≡ some (drop (i + 1) bytes)
+  unfolding takeLF
+  takeLF-here l e = cc (drop-inside bytes i l)
+
+  -- the end of a line is LF, where no CR stands
+  pub takeEnd-no-CR : i < length bytes → (at bytes i ≡ 13 → ⊥) → takeEnd (drop i bytes) ≡ takeLF (drop i bytes)
   unfolding takeEnd
-  takeEnd-here l e = cc (drop-inside bytes i l)
+  takeEnd-no-CR l other = cc (drop-inside bytes i l, ne-eqb (at bytes i) 13 other)
+
+  -- where one stands, it is the LF after it
+  pub takeEnd-CR : i < length bytes → at bytes i ≡ 13 → takeEnd (drop i bytes) ≡ takeLF (drop (i + 1) bytes)
+  unfolding takeEnd
+  takeEnd-CR l e = cc (drop-inside bytes i l)
 
 -- ---- kinds
 
--- the two digits of a kind that is taken stood as they are written
-takeKind-digits : (kind x y : ℕ) (bytes rest : List ℕ) → takeKind kind (x ∷ y ∷ bytes) ≡ some rest
-    → (x ≡ digit (kind / 16)) × (y ≡ digit (kind % 16))
-unfolding takeKind takeDigits
-takeKind-digits kind x y bytes rest e = go (digitValue x) refl (digitValue y) refl
-  where
-    found : (v w : ℕ) → (v < 16) × (digit v ≡ x) → (w < 16) × (digit w ≡ y) → 16 * (16 * 0 + v) + w ≡ kind
-        → (x ≡ digit (kind / 16)) × (y ≡ digit (kind % 16))
-    found v w p q f =
-        let high : kind / 16 ≡ v = omega arith in
-        let low : kind % 16 ≡ w = omega arith in
-        (rw high (sym (p .1)), rw low (sym (q .1)))
+module _ (kind : ℕ) (bytes : List ℕ) where
+  -- without two digits there is no kind
+  takeKind-none : takeDigits 2 0 bytes ≡ none → takeKind kind bytes ≡ none
+  unfolding takeKind
+  takeKind-none e = cc
 
-    both : (v w : ℕ) → digitValue x ≡ some v → digitValue y ≡ some w
-        → (b : Bool) → eqb (16 * (16 * 0 + v) + w) kind ≡ b → (x ≡ digit (kind / 16)) × (y ≡ digit (kind % 16))
-    both v w f g true h = found v w (digit-digitValue x v f) (digit-digitValue y w g) (eqb-true _ _ h)
-    both v w f g false h = let z : _≡_ {A = ℕ} 0 1 = cc in absurd (omega arith)
+  -- another number is another kind
+  takeKind-wrong : {v : ℕ} {rest : List ℕ} → takeDigits 2 0 bytes ≡ some (record { value = v; rest = rest })
+      → (v ≡ kind → ⊥) → takeKind kind bytes ≡ none
+  unfolding takeKind
+  takeKind-wrong {v} e other = cc (ne-eqb v kind other)
 
-    go : (o : Option ℕ) → digitValue x ≡ o → (p : Option ℕ) → digitValue y ≡ p
-        → (x ≡ digit (kind / 16)) × (y ≡ digit (kind % 16))
-    go none f p g = let z : _≡_ {A = ℕ} 0 1 = cc in absurd (omega arith)
-    go (some v) f none g = let z : _≡_ {A = ℕ} 0 1 = cc in absurd (omega arith)
-    go (some v) f (some w) g = both v w f g (eqb (16 * (16 * 0 + v) + w) kind) refl
+  -- the number is the kind
+  takeKind-here : {v : ℕ} {rest : List ℕ} → takeDigits 2 0 bytes ≡ some (record { value = v; rest = rest })
+      → v ≡ kind → takeKind kind bytes ≡ some rest
+  unfolding takeKind
+  takeKind-here {v} e same = cc (eq-eqb v kind same)
 
--- where two bytes stand, the kind of a line is its two digits
-module _ (kind i : ℕ) (bytes : List ℕ) (lent : KindLeft kind i bytes) where
-  -- the two bytes, and those after them
-  two-bytes : drop i bytes ≡ at bytes i ∷ at bytes (i + 1) ∷ drop (i + 2) bytes
-  two-bytes =
-      let e : i + 1 + 1 ≡ i + 2 = omega arith in
-      cc (drop-inside bytes i (omega arith), drop-inside bytes (i + 1) (omega arith))
-
-  -- another byte is another kind
-  pub takeKind-wrong : ((at bytes i ≡ digit (kind / 16)) × (at bytes (i + 1) ≡ digit (kind % 16)) → ⊥)
-      → takeKind kind (drop i bytes) ≡ none
-  takeKind-wrong other = go (takeKind kind (drop i bytes)) refl
+-- a kind at a place, of which the two bytes are given as digits
+module _ (kind : ℕ) (bytes : List ℕ) (i : ℕ) {h : ℕ} (small : kind < 256) (there : i + 2 ≤ length bytes) (H : DigitGiven (at bytes i) h) where
+  -- the first is that of another kind
+  pub kind-other-first : (h ≡ kind / 16 → ⊥) → takeKind kind (drop i bytes) ≡ none
+  kind-other-first not = go H (digitValue (at bytes (i + 1))) refl
     where
-      go : (o : Option (List ℕ)) → takeKind kind (drop i bytes) ≡ o → takeKind kind (drop i bytes) ≡ none
-      go none e = e
-      go (some rest) e = absurd (other (takeKind-digits kind _ _ _ rest (rw two-bytes at e)))
+      go : DigitGiven (at bytes i) h → (o : Option ℕ) → digitValue (at bytes (i + 1)) ≡ o
+          → takeKind kind (drop i bytes) ≡ none
+      go (noDigit e _) o f = takeKind-none kind _ (takeDigits-wrong bytes i 1 0 (omega arith) e)
+      go (digit e) none f =
+          takeKind-none kind _ (step bytes i (i + 1) 1 0 h refl (omega arith) e
+          ∙ takeDigits-wrong bytes (i + 1) 0 _ (omega arith) f)
+      go (digit e) (some w) f =
+          takeKind-wrong kind _ (two-digits bytes i h w (omega arith) e f)
+          (λ same. not (omega (arith, digit-below _ w f)))
 
-  -- the digits of the kind are the kind
-  pub takeKind-here : at bytes i ≡ digit (kind / 16) → at bytes (i + 1) ≡ digit (kind % 16)
-      → takeKind kind (drop i bytes) ≡ some (drop (i + 2) bytes)
-  unfolding takeKind takeDigits
-  takeKind-here p q =
-      let e : 16 * (16 * 0 + kind / 16) + kind % 16 ≡ kind = omega arith in
-      cc (
-        two-bytes,
-        digitValue-digit (kind / 16) (omega (arith, lent .small)),
-        digitValue-digit (kind % 16) (omega arith),
-        eq-eqb (16 * (16 * 0 + kind / 16) + kind % 16) kind e,
-      )
+  module _ {l : ℕ} (first : h ≡ kind / 16) (L : DigitGiven (at bytes (i + 1)) l) where
+    -- the first is a digit
+    first-digit : digitValue (at bytes i) ≡ some h
+    first-digit = is-digit H (omega arith)
+
+    -- the second is that of another kind
+    pub kind-other-second : (l ≡ kind % 16 → ⊥) → takeKind kind (drop i bytes) ≡ none
+    kind-other-second not = go L
+      where
+        go : DigitGiven (at bytes (i + 1)) l → takeKind kind (drop i bytes) ≡ none
+        go (noDigit f _) =
+            takeKind-none kind _ (step bytes i (i + 1) 1 0 h refl (omega arith) first-digit
+            ∙ takeDigits-wrong bytes (i + 1) 0 _ (omega arith) f)
+        go (digit f) =
+            takeKind-wrong kind _ (two-digits bytes i h l (omega arith) first-digit f)
+            (λ same. not (omega (arith, digit-below _ l f)))
+
+    -- both are those of the kind
+    pub kind-here : l ≡ kind % 16 → takeKind kind (drop i bytes) ≡ some (drop (i + 2) bytes)
+    kind-here second =
+        takeKind-here kind _ (two-digits bytes i h l (omega arith) first-digit (is-digit L (omega arith))) (omega arith)
 
 -- a kind that is taken is two bytes
 takeKind-length : (kind : ℕ) (bytes rest : List ℕ) → takeKind kind bytes ≡ some rest → length bytes ≡ 2 + length rest
@@ -240,8 +293,10 @@ module _ {kind n : ℕ} {bytes so-far rest : List ℕ} where
 -- where a whole line of bytes is left from place i on, and it has been read up to place j
 module _ {kind n : ℕ} {so-far : List ℕ} (bytes : List ℕ) (i j : ℕ) (left : i + (3 + 4 * n) ≤ length bytes) where
   -- the bytes of a number that is to come are there
-  pub number-there : {m : ℕ} → Begun kind n (drop i bytes) (suc m) so-far (drop j bytes) → DigitsLeft 4 j bytes
-  number-there I = record { few = omega arith; there = omega (arith, simp length-drop at (I .used)) }
+  pub number-there : {m : ℕ} {table : List ℕ} → DigitTable table → Begun kind n (drop i bytes) (suc m) so-far (drop j bytes)
+      → DigitsLeft 4 j bytes table
+  number-there looked I =
+      record { there = omega (arith, simp length-drop at (I .used)); looked = looked }
 
   -- so is the byte of the end
   pub end-there : Begun kind n (drop i bytes) 0 so-far (drop j bytes) → j < length bytes

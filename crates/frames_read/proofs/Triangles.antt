@@ -76,10 +76,3 @@ module _ {bytes : List ℕ} {F start k place : ℕ} {so-far : List ℕ} (R : Rea
       go : (rest : List ℕ) → takeTriangles zero (k + 1) so-far rest ≡ corners T → T ≡ so-far
       go [] e = cc
       go (byte ∷ rest) e = cc
-
-  -- where all are right, the next one is
-  pub reached-not-wrong : (T : List ℕ) → k < F → takeTriangles F 1 [] (drop start bytes) ≡ corners T
-      → takeLine 0x46 3 (drop place bytes) ≡ none → ⊥
-  reached-not-wrong T l right e =
-      let z : _≡_ {A = ℕ} 0 1 = cc (reached-wrong l e) in
-      omega arith

@@ -2,6 +2,7 @@
 use Prim.Native.Nat.{ℕ, _*_, _≤_}
 use native.Mathlib.Omega.{arith}
 use mathlib.Core.Path.{_≡_, refl, sym, ap, _∙_, subst}
+use mathlib.Core.Bool.{true, false}
 use mathlib.Core.Option.{some}
 use mathlib.Core.List.{List, [], _∷_}
 use lib.ListN.{length}
@@ -9,28 +10,14 @@ use Rattle.theory.specs.Limits.{mostTriangles, mostVertices}
 use Rattle.theory.specs.Mesh.{triangles}
 use Rattle.theory.specs.Refusals.{Passed, Refused}
 use Rattle.theory.specs.Calls.{written}
-use Rattle.theory.specs.Frames.{FramesAnswer, framesAccepted, takeLine, takeTriangles, LinesSay, readRules, ReadsFrames}
+use Rattle.theory.specs.Frames.{FramesAnswer, framesAccepted, takeLine, corners, wrongLine, takeTriangles, LinesSay}
+use Rattle.theory.specs.Frames.{readRules, ReadsFrames}
 use Rattle.theory.proofs.Reader.{later-line-refused, lines-passed}
-use Rattle.frames_read.specs.Judging.{LinesJudged, right, wrong, linesToWrite, TrianglesLent, TrianglesRead}
-use Rattle.frames_read.specs.Judging.{answerOf}
+use Rattle.frames_read.specs.Judging.{LinesJudged, right, wrong, TrianglesTaken, answerOf}
 use Rattle.frames_read.specs.declared.reading.Verdict.{Verdict}
 use Rattle.frames_read.specs.declared.reading.Verdict.the-variants as verdict
 
--- ---- the verdict on the triangle lines
-
--- the lines that may be written are lent
-pub judged-lent : {N F : ℕ} {bytes out : List ℕ} {v : Verdict} {lines : ℕ}
-    → LinesJudged N F (takeTriangles F 1 [] bytes) v → lines ≡ linesToWrite v → 3 * F ≤ length out
-    → TrianglesLent lines bytes out
-judged-lent (right T e) w room = record { list = T; right = λ _. rw w e; room = omega arith }
-judged-lent (wrong line e) w room = record { list = []; right = λ some. absurd (omega arith); room = omega arith }
-
 -- ---- the answers of reading
-
--- where no corners are written, nothing changes
-none-written : (T out : List ℕ) → length T ≡ 0 → written T out ≡ out
-none-written [] out e = refl
-none-written (corner ∷ T) out e = absurd (omega arith)
 
 module _ (bytes out : List ℕ) where
   -- a refusal, with nothing written
@@ -45,18 +32,35 @@ module _ (bytes out : List ℕ) where
       let count : F ≡ triangles T = omega arith in
       ReadsFrames.accepts N T passed says (ap (framesAccepted N) count) leaves
 
-  -- the verdict on the triangle lines, with those written that may be
-  pub judged-read : {N F lines : ℕ} {rest out′ : List ℕ} {v : Verdict}
-      → takeLine 0x4D 2 bytes ≡ some (record { value = N ∷ F ∷ []; rest = rest }) → F ≤ mostTriangles
-      → N ≤ mostVertices → 3 * F ≤ length out → LinesJudged N F (takeTriangles F 1 [] rest) v
-      → lines ≡ linesToWrite v → TrianglesRead lines rest out out′ → ReadsFrames bytes out (answerOf v) out′
-  judged-read {N} {F} line few low fits (right T e) w done =
-      let same : T ≡ done .list = done .only T (rw w e) in
-      mesh-read N F T (lines-passed (length out) bytes _ line few low fits T e)
-      (omega (arith, ap length same, done .long)) (rw same (done .leaves))
-  judged-read {out′ = out′} line few low fits (wrong at-line e) w done =
-      let same : out′ ≡ out = done .leaves ∙ none-written (done .list) out (omega (arith, done .long)) in
-      rw same (refused-read 12 at-line (later-line-refused (length out) bytes _ line few low fits at-line e))
+  -- where the first line says N and F, which are within the limits and the room
+  module _ {N F : ℕ} {rest : List ℕ} (line : takeLine 0x4D 2 bytes ≡ some (record { value = N ∷ F ∷ []; rest = rest }))
+      (few : F ≤ mostTriangles) (low : N ≤ mostVertices) (fits : 3 * F ≤ length out) where
+    -- a verdict that is a refusal, with nothing written
+    pub lines-refused : {number place : ℕ} {v : Verdict} {mid : List ℕ} → TrianglesTaken N F rest false v out mid
+        → v ≡ verdict.Refused number place → ReadsFrames bytes out (answerOf v) mid
+    lines-refused {number} {place} done told = rw (done .stays refl) (go (done .judged) told)
+      where
+        go : {v : Verdict} → LinesJudged N F (takeTriangles F 1 [] rest) v → v ≡ verdict.Refused number place
+            → ReadsFrames bytes out (answerOf v) out
+        go (right T e) f = let z : _≡_ {A = ℕ} 0 1 = cc in absurd (omega arith)
+        go (wrong at-line e) f =
+            refused-read 12 at-line (later-line-refused (length out) bytes _ line few low fits at-line e)
+
+    -- after a verdict that is a mesh the lines are right, and their corners are written
+    pub lines-read : {n f : ℕ} {v w : Verdict} {mid out′ : List ℕ} → TrianglesTaken N F rest false v out mid
+        → v ≡ verdict.Mesh n f → TrianglesTaken N F rest true w mid out′ → ReadsFrames bytes out (answerOf w) out′
+    lines-read {n} {f} {mid = mid} {out′ = out′} judged told done = go (judged .judged) told (done .judged)
+      where
+        go : {v w : Verdict} → LinesJudged N F (takeTriangles F 1 [] rest) v → v ≡ verdict.Mesh n f
+            → LinesJudged N F (takeTriangles F 1 [] rest) w → ReadsFrames bytes out (answerOf w) out′
+        go (wrong at-line e) g J = let z : _≡_ {A = ℕ} 0 1 = cc in absurd (omega arith)
+        go (right T e) g (wrong at-line h) =
+            let clash : wrongLine at-line ≡ corners T = sym h ∙ e in
+            let z : _≡_ {A = ℕ} 0 1 = cc in
+            absurd (omega arith)
+        go (right T e) g (right S h) =
+            mesh-read N F S (lines-passed (length out) bytes _ line few low fits S h) (done .long S h)
+            (done .puts refl S h ∙ ap (written S) (judged .stays refl))
 
 -- an answer made of what was read is the one that is promised
 pub answered : {bytes out : List ℕ} {read made : Verdict} {out′ : List ℕ} {answer : FramesAnswer}

@@ -1,38 +1,42 @@
 -- What judging and reading the frames of a mesh are lent and do, and what document 01 gives for each of their answers.
 use Prim.Native.Nat.{ℕ, _*_, _≤_, _<_}
 use mathlib.Core.Path.{_≡_}
+use mathlib.Core.Bool.{Bool, true, false}
 use mathlib.Core.List.{List, []}
 use lib.ListN.{length}
+use lib.Seq.{sets}
 use Rattle.theory.specs.Limits.{mostTriangles, mostVertices}
 use Rattle.theory.specs.Calls.{written}
 use Rattle.theory.specs.Frames.{FramesAnswer, framesRefusal, framesAccepted, Corners, corners, wrongLine, takeTriangles}
+use Rattle.frames_read.specs.Parts.{DigitTable}
 use Rattle.frames_read.specs.declared.reading.Verdict.{Verdict}
 use Rattle.frames_read.specs.declared.reading.Verdict.the-variants as verdict
 
 -- ---- triangle lines
+
+-- The corners stand as those of triangle k, where they are to be written, and else nothing changes.
+pub record CornersPut (k : ℕ) (writing : Bool) (list out out′ : List ℕ) : Type 0 where
+  pub puts : writing ≡ true → out′ ≡ sets out (3 * k) list
+  pub stays : writing ≡ false → out′ ≡ out
+
+-- The lines are counted in four digits, read by the table of digits, and there is room for their corners.
+pub record TrianglesLent (F : ℕ) (table out : List ℕ) : Type 0 where
+  pub few : F < 65536
+  pub looked : DigitTable table
+  pub room : 3 * F ≤ length out
 
 -- The verdict on the triangle lines of a mesh with these counts: all are taken, or "12" at the first that is not.
 pub data LinesJudged (N F : ℕ) (taken : Corners) : Verdict → Type 0 where
   right : (T : List ℕ) → taken ≡ corners T → LinesJudged N F taken (verdict.Mesh N F)
   wrong : (line : ℕ) → taken ≡ wrongLine line → LinesJudged N F taken (verdict.Refused 12 line)
 
--- How many of them may be written: all of a mesh's, none where one is refused.
-abbrev pub linesToWrite : Verdict → ℕ
-linesToWrite (verdict.Mesh vertices triangles) = triangles
-linesToWrite (verdict.Refused number place) = 0
-
--- All triangle lines, which are right, or none of them, with room for their corners.
-pub record TrianglesLent (F : ℕ) (bytes out : List ℕ) : Type 0 where
-  pub list : List ℕ
-  pub right : 0 < F → takeTriangles F 1 [] bytes ≡ corners list
-  pub room : 3 * F ≤ length out
-
--- Their corners are written in front, three for each.
-pub record TrianglesRead (F : ℕ) (bytes out out′ : List ℕ) : Type 0 where
-  pub list : List ℕ
-  pub long : length list ≡ 3 * F
-  pub only : (T : List ℕ) → takeTriangles F 1 [] bytes ≡ corners T → T ≡ list
-  pub leaves : out′ ≡ written list out
+-- With it, where the lines are right and their corners are to be written, these stand in front; and where they are not
+-- to be written, nothing changes.
+pub record TrianglesTaken (N F : ℕ) (bytes : List ℕ) (writing : Bool) (answer : Verdict) (out out′ : List ℕ) : Type 0 where
+  pub judged : LinesJudged N F (takeTriangles F 1 [] bytes) answer
+  pub long : (T : List ℕ) → takeTriangles F 1 [] bytes ≡ corners T → length T ≡ 3 * F
+  pub puts : writing ≡ true → (T : List ℕ) → takeTriangles F 1 [] bytes ≡ corners T → out′ ≡ written T out
+  pub stays : writing ≡ false → out′ ≡ out
 
 -- ---- frames
 

@@ -2,4 +2,3 @@
 pub mod Parts
 pub mod Given
 pub mod Judging
-pub mod RightLines

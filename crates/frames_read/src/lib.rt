@@ -2,7 +2,7 @@
 // twice over the bytes at most, and assumes nothing.
 pub mod call;
 pub mod digits;
+pub mod ends;
 pub mod lines;
 pub mod numbers;
 pub mod reading;
-pub mod right;

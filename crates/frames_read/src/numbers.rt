@@ -1,11 +1,8 @@
-// The parts of a line, each read from where a cursor stands: a number of some digits, the line's kind and its end.
-use super::digits::Digit;
+// The parts of a line, each read from where a cursor stands: a number of four digits, and the line's kind.
 use super::digits::digit_value;
-use frames_write::digits::digit_byte;
 ghost use mathlib.Core.Path.{_≡_};
-ghost use Prim.Native.Nat.{_<_};
-ghost use lib.ListN.{length, drop};
-ghost use Rattle.theory.specs.Frames.{takeDigits, takeEnd};
+ghost use lib.ListN.{drop};
+ghost use Rattle.theory.specs.Frames.{takeDigits};
 ghost use Rattle.frames_read.specs.Parts.{TooFew, DigitsLeft, KindLeft, numberOf, stepOf, takeKind};
 
 // Where to read on.
@@ -35,51 +32,36 @@ pub(crate) fn too_few(bytes: &[u8], cursor: Cursor, count: usize) -> bool
     bytes.len() - count < cursor.at
 }
 
-// A number of so many digits, four at most.
-pub(crate) fn take_number(bytes: &[u8], cursor: Cursor, digits: usize) -> Number
-    requires { ⌜ DigitsLeft digits (cursor .at) (now bytes) ⌝ }
-    ensures { λ r. ⌜ numberOf (now (bytes .entry)) r ≡ takeDigits digits 0 (drop (cursor .at) (now (bytes .entry))) ⌝ }
+// A number of four digits. They are tested together, since a byte that is none makes their sum too large.
+pub(crate) fn take_number(bytes: &[u8], table: &[u8], cursor: Cursor) -> Number
+    requires { ⌜ DigitsLeft 4 (cursor .at) (now bytes) (now table) ⌝ }
+    ensures { λ r. ⌜ numberOf (now (bytes .entry)) r ≡ takeDigits 4 0 (drop (cursor .at) (now (bytes .entry))) ⌝ }
 {
-    let mut at = cursor.at;
-    let mut left = digits;
-    let mut value: u16 = 0;
-    while 0 < left {
-        let Digit::Holds(digit) = digit_value(bytes[at]) else {
-            return Number::Wrong;
-        };
-        value = 16 * value + digit;
-        at += 1;
-        left -= 1;
+    let at = cursor.at;
+    let first = digit_value(table, bytes[at]);
+    let second = digit_value(table, bytes[at + 1]);
+    let third = digit_value(table, bytes[at + 2]);
+    let fourth = digit_value(table, bytes[at + 3]);
+    if 4 * 15 < first + second + third + fourth {
+        return Number::Wrong;
     }
     Number::Holds {
-        value,
-        cursor: Cursor { at },
+        value: 16 * (16 * (16 * first + second) + third) + fourth,
+        cursor: Cursor { at: at + 4 },
     }
 }
 
 // The kind of a line, in two digits.
-pub(crate) fn take_kind(bytes: &[u8], cursor: Cursor, kind: usize) -> Step
-    requires { ⌜ KindLeft kind (cursor .at) (now bytes) ⌝ }
+pub(crate) fn take_kind(bytes: &[u8], table: &[u8], cursor: Cursor, kind: u16) -> Step
+    requires { ⌜ KindLeft kind (cursor .at) (now bytes) (now table) ⌝ }
     ensures { λ r. ⌜ stepOf (now (bytes .entry)) r ≡ takeKind kind (drop (cursor .at) (now (bytes .entry))) ⌝ }
 {
     let at = cursor.at;
-    if bytes[at] != digit_byte(kind / 16) {
+    if digit_value(table, bytes[at]) != kind / 16 {
         return Step::Wrong;
     }
-    if bytes[at + 1] != digit_byte(kind % 16) {
+    if digit_value(table, bytes[at + 1]) != kind % 16 {
         return Step::Wrong;
     }
     Step::Holds(Cursor { at: at + 2 })
-}
-
-// The end of a line, one LF.
-pub(crate) fn take_end(bytes: &[u8], cursor: Cursor) -> Step
-    requires { ⌜ cursor .at < length (now bytes) ⌝ }
-    ensures { λ r. ⌜ stepOf (now (bytes .entry)) r ≡ takeEnd (drop (cursor .at) (now (bytes .entry))) ⌝ }
-{
-    let at = cursor.at;
-    if bytes[at] == b'\n' {
-        return Step::Holds(Cursor { at: at + 1 });
-    }
-    Step::Wrong
 }

@@ -1,17 +1,15 @@
 // Reading frames: every line is judged before the first corner is written, so that a refusal writes nothing.
+use super::digits::digit_table;
 use super::lines::MeshFrame;
 use super::lines::TriangleFrame;
 use super::lines::take_mesh;
 use super::lines::take_triangle;
 use super::numbers::Cursor;
-use super::right::write_corners;
-ghost use Prim.Native.Nat.{_<_};
-ghost use mathlib.Core.Path.{_≡_};
-ghost use mathlib.Core.List.{[]};
-ghost use lib.ListN.{drop};
-ghost use Rattle.theory.specs.Frames.{takeTriangles, ReadsFrames};
-ghost use Rattle.frames_read.specs.Judging.{LinesJudged, linesToWrite, TrianglesLent, TrianglesRead};
-ghost use Rattle.frames_read.specs.Judging.{FramesLent, answerOf};
+ghost use Prim.Native.Nat.{_+_, _*_, _≤_};
+ghost use mathlib.Core.List.{[], _∷_};
+ghost use lib.ListN.{length, drop};
+ghost use Rattle.theory.specs.Frames.{ReadsFrames};
+ghost use Rattle.frames_read.specs.Judging.{CornersPut, TrianglesLent, TrianglesTaken, FramesLent, answerOf};
 
 // What frames are read as: a mesh, by its counts, or a refusal.
 pub enum Verdict {
@@ -19,28 +17,51 @@ pub enum Verdict {
     Refused { number: u64, place: u64 },
 }
 
-// Judges the triangle lines of a mesh with these counts, from the cursor on: each as required, and nothing after the
-// last.
-fn judge_triangles(bytes: &[u8], cursor: Cursor, vertices: usize, triangles: usize) -> Verdict
-    requires { ⌜ triangles < 65536 ⌝ }
-    ensures { λ r. ⌜ LinesJudged vertices triangles
-        (takeTriangles triangles 1 [] (drop (cursor .at) (now (bytes .entry)))) r ⌝ }
+// Writes the corners of triangle k, where they are to be written.
+fn put_corners(out: &mut [u16], k: usize, writing: bool, a: u16, b: u16, c: u16)
+    requires { ⌜ 3 * k + 3 ≤ length (now out) ⌝ }
+    ensures { λ _. ⌜ CornersPut k writing (a ∷ b ∷ c ∷ []) (now (out .entry)) (now (out .exit)) ⌝ }
+{
+    if !writing {
+        return;
+    }
+    out[3 * k] = a;
+    out[3 * k + 1] = b;
+    out[3 * k + 2] = c;
+}
+
+// Takes the triangle lines of a mesh with these counts, from the cursor on: each must be as required, and nothing come
+// after the last. It is called to judge them and then to write their corners: as one function, so that the line reader is
+// compiled into its loop, which it would be into neither of two.
+fn take_triangles(
+    bytes: &[u8],
+    table: &[u8],
+    cursor: Cursor,
+    vertices: usize,
+    triangles: usize,
+    writing: bool,
+    out: &mut [u16],
+) -> Verdict
+    requires { ⌜ TrianglesLent triangles (now table) (now out) ⌝ }
+    ensures { λ r. ⌜ TrianglesTaken vertices triangles (drop (cursor .at) (now (bytes .entry))) writing r
+        (now (out .entry)) (now (out .exit)) ⌝ }
 {
     let mut cursor = cursor;
     let mut k = 0;
     while k < triangles {
         let TriangleFrame::Holds {
-            a: _,
-            b: _,
-            c: _,
+            a,
+            b,
+            c,
             cursor: next,
-        } = take_triangle(bytes, cursor)
+        } = take_triangle(bytes, table, cursor)
         else {
             return Verdict::Refused {
                 number: 12,
                 place: (k + 1) as u64,
             };
         };
+        put_corners(out, k, writing, a, b, c);
         cursor = next;
         k += 1;
     }
@@ -56,45 +77,17 @@ fn judge_triangles(bytes: &[u8], cursor: Cursor, vertices: usize, triangles: usi
     }
 }
 
-// How many triangle lines may be written: all of a mesh's, none where a line is refused.
-fn lines_to_write(verdict: Verdict) -> usize
-    ensures { λ r. ⌜ r ≡ linesToWrite verdict ⌝ }
-{
-    let Verdict::Mesh {
-        vertices: _,
-        triangles,
-    } = verdict
-    else {
-        return 0;
-    };
-    triangles
-}
-
-// Writes the corners of so many triangle lines, which have been judged right.
-fn read_triangles(bytes: &[u8], cursor: Cursor, triangles: usize, out: &mut [u16])
-    requires { ⌜ TrianglesLent triangles (drop (cursor .at) (now bytes)) (now out) ⌝ }
-    ensures { λ _. ⌜ TrianglesRead triangles (drop (cursor .at) (now (bytes .entry))) (now (out .entry))
-        (now (out .exit)) ⌝ }
-{
-    let mut place = cursor.at;
-    let mut k = 0;
-    while k < triangles {
-        write_corners(bytes, place, out, k);
-        place += 15;
-        k += 1;
-    }
-}
-
 // Reads a mesh within the limits, and writes its corners to the front of `out`.
 pub fn read(bytes: &[u8], most_triangles: u64, most_vertices: u64, out: &mut [u16]) -> Verdict
     requires { ⌜ FramesLent «most_triangles» «most_vertices» ⌝ }
     ensures { λ r. ⌜ ReadsFrames (now (bytes .entry)) (now (out .entry)) (answerOf r) (now (out .exit)) ⌝ }
 {
+    let table = digit_table();
     let MeshFrame::Holds {
         vertices,
         triangles,
         cursor,
-    } = take_mesh(bytes)
+    } = take_mesh(bytes, &table)
     else {
         return Verdict::Refused {
             number: 12,
@@ -120,7 +113,14 @@ pub fn read(bytes: &[u8], most_triangles: u64, most_vertices: u64, out: &mut [u1
             place: 0,
         };
     }
-    let verdict = judge_triangles(bytes, cursor, vertices as usize, triangles);
-    read_triangles(bytes, cursor, lines_to_write(verdict), out);
-    verdict
+    let vertices = vertices as usize;
+    let judged = take_triangles(bytes, &table, cursor, vertices, triangles, false, out);
+    let Verdict::Mesh {
+        vertices: _,
+        triangles: _,
+    } = judged
+    else {
+        return judged;
+    };
+    take_triangles(bytes, &table, cursor, vertices, triangles, true, out)
 }

@@ -20,7 +20,7 @@ impl Limits {
 
     pub const PROGRAM_VERTICES: u64 = 1_026;
 
-    pub const PROGRAM_BYTES: u64 = 16_384;
+    pub const PROGRAM_BYTES: u64 = 16_396;
     // The largest corner that an index text may name.
     pub const CORNER: u64 = 65_535;
 }

@@ -1,23 +1,26 @@
 -- What the promises of the two calls for frames say of one another, limits and room included: written frames read back
--- to the mesh, a file that is read and written again is the same bytes, and which refusals are given at all. That some
--- result keeps each promise is said too.
+-- to the mesh, a file that is read and written again is its normal spelling, which stays as it is, and which refusals
+-- are given at all. That some result keeps each promise is said too.
 use Prim.Native.Nat.{ℕ, _+_, _*_, _≤_, _<_}
 use native.Mathlib.Omega.{arith}
 use mathlib.Core.Path.{_≡_, refl, sym, ap, ap₂, _∙_, subst}
-use mathlib.Core.Logic.{_⊎_, inl, inr}
+use mathlib.Core.Logic.{_⊎_, inl, inr, _↔_}
 use mathlib.Core.List.{List}
 use lib.ListN.{length}
+use Rattle.theory.specs.Limits.{mostBytes, programTriangles}
 use Rattle.theory.specs.Mesh.{at, triangles}
 use Rattle.theory.specs.Refusals.{Passed, Refused}
 use Rattle.theory.specs.Calls.{written}
 use Rattle.theory.specs.Frames.{FramesAnswer, framesAccepted, frames, LinesSay, readRules, ReadsFrames}
 use Rattle.theory.specs.Frames.{writeRules, WritesFrames}
-use Rattle.theory.specs.Demands.{foundCorners, foundBytes}
+use Rattle.theory.specs.Demands.{foundCorners, foundBytes, normal, OfUpperAndLF}
 use Rattle.theory.proofs.Refusals.{refused-above, refused-number, Fitting, fitting-passed, passed-fitting}
 use Rattle.theory.proofs.Determined.{reads-frames-determined, writes-frames-determined}
 use Rattle.theory.proofs.Results.{take-written}
 use Rattle.theory.proofs.Reader.{mesh, readFrames, read-passed, passed-read}
-use Rattle.theory.proofs.Frames.{read-written, write-read, read-whole, read-few, read-low, frames-length}
+use Rattle.theory.proofs.Frames.{read-written, read-whole, read-few, read-low, read-fits, read-small, read-long}
+use Rattle.theory.proofs.Frames.{frames-length}
+use Rattle.theory.proofs.Normal.{normal-normal, normal-is, normal-own}
 
 -- ---- which refusals are given
 
@@ -134,7 +137,7 @@ module _ {N : ℕ} {T o o′ : List ℕ} {a : FramesAnswer} (W : WritesFrames N 
       → (answer ≡ framesAccepted N (triangles T)) × (out′ ≡ written T out)
   written-reads-back enough R = reads-frames-determined R (written-accepted enough)
 
--- ---- a file that was read and is written again is the same bytes
+-- ---- a file that was read and is written again is its normal spelling
 
 module _ {bytes out out′ : List ℕ} {answer : FramesAnswer} (R : ReadsFrames bytes out answer out′)
     (accepts : answer .refusal ≡ 0) where
@@ -150,18 +153,75 @@ module _ {bytes out out′ : List ℕ} {answer : FramesAnswer} (R : ReadsFrames 
         fits = omega (arith, r .counted);
       }
 
-  -- a mesh that was read is accepted by writing, with room enough, and leaves the file's bytes in the buffer
+  -- a mesh that was read is accepted by writing, with room enough, and leaves the file's normal spelling in the buffer
   pub read-can-be-written : {o : List ℕ} → 11 + 15 * answer .triangles ≤ length o
-      → WritesFrames (answer .vertices) (foundCorners answer out′) o (framesAccepted (answer .vertices) (answer .triangles))
-      (written bytes o)
+      → WritesFrames (answer .vertices) (foundCorners answer out′) o
+      (framesAccepted (answer .vertices) (answer .triangles)) (written (normal bytes) o)
   read-can-be-written {o} enough =
       let r = read-accepted R accepts in
       WritesFrames.accepts (writable-passed (answer .vertices) (foundCorners answer out′) o (read-writable enough))
       (ap (framesAccepted (answer .vertices)) (sym (r .counted)))
-      (ap (λ (b : List ℕ). written b o) (sym (write-read _ _ bytes _ (r .is))))
+      (ap (λ (b : List ℕ). written b o) (normal-is _ _ bytes _ (r .is)))
 
-  -- no other result keeps writing's promise: it writes the same bytes, and the rest of the buffer stays
-  pub read-writes-back : {o o′ : List ℕ} {a : FramesAnswer} → 11 + 15 * answer .triangles ≤ length o
+  -- no other result keeps writing's promise: it writes the normal spelling, and the rest of the buffer stays
+  pub read-writes-normal : {o o′ : List ℕ} {a : FramesAnswer} → 11 + 15 * answer .triangles ≤ length o
       → WritesFrames (answer .vertices) (foundCorners answer out′) o a o′
-      → (a ≡ framesAccepted (answer .vertices) (answer .triangles)) × (o′ ≡ written bytes o)
-  read-writes-back enough W = writes-frames-determined W (read-can-be-written enough)
+      → (a ≡ framesAccepted (answer .vertices) (answer .triangles)) × (o′ ≡ written (normal bytes) o)
+  read-writes-normal enough W = writes-frames-determined W (read-can-be-written enough)
+
+  -- which is what a caller finds
+  pub found-normal : {o o′ : List ℕ} {a : FramesAnswer} → 11 + 15 * answer .triangles ≤ length o
+      → WritesFrames (answer .vertices) (foundCorners answer out′) o a o′ → foundBytes a o′ ≡ normal bytes
+  found-normal enough W =
+      let accepted = ap (λ (b : FramesAnswer). b .refusal) (read-writes-normal enough W .0) in
+      write-accepted W accepted .found ∙ sym (normal-is _ _ bytes _ (read-accepted R accepts .is))
+
+  -- it is the file itself exactly if that is of upper case and LF
+  pub found-own : {o o′ : List ℕ} {a : FramesAnswer} → 11 + 15 * answer .triangles ≤ length o
+      → WritesFrames (answer .vertices) (foundCorners answer out′) o a o′
+      → (foundBytes a o′ ≡ bytes) ↔ OfUpperAndLF bytes
+  found-own enough W =
+      let own = normal-own _ _ bytes _ (read-accepted R accepts .is) in
+      (λ e. own .0 (sym (found-normal enough W) ∙ e), λ U. found-normal enough W ∙ own .1 U)
+
+-- ---- to read and to write once more changes nothing
+
+module _ {bytes out out′ : List ℕ} {answer : FramesAnswer} (R : ReadsFrames bytes out answer out′)
+    (accepts : answer .refusal ≡ 0) {o o′ : List ℕ} {a : FramesAnswer}
+    (enough : 11 + 15 * answer .triangles ≤ length o)
+    (W : WritesFrames (answer .vertices) (foundCorners answer out′) o a o′) {next next′ : List ℕ} {again : FramesAnswer}
+    (room : 3 * answer .triangles ≤ length next) (S : ReadsFrames (foundBytes a o′) next again next′) where
+  -- what was written reads back
+  reread : (again ≡ framesAccepted (answer .vertices) (triangles (foundCorners answer out′)))
+      × (next′ ≡ written (foundCorners answer out′) next)
+  reread =
+      let r = read-accepted R accepts in
+      written-reads-back W (ap (λ (b : FramesAnswer). b .refusal) (read-writes-normal R accepts enough W .0))
+      (read-small _ _ bytes _ (r .is)) (omega (arith, room, r .counted)) S
+
+  -- it is read as the file before it was
+  pub normal-answered : again ≡ framesAccepted (answer .vertices) (answer .triangles)
+  normal-answered = reread .0 ∙ ap (framesAccepted (answer .vertices)) (read-accepted R accepts .counted)
+
+  -- with the same corners
+  pub normal-same-corners : foundCorners again next′ ≡ foundCorners answer out′
+  normal-same-corners =
+      ap₂ foundCorners (reread .0) (reread .1)
+      ∙ take-written (foundCorners answer out′) next (read-whole _ _ bytes _ (read-accepted R accepts .is))
+
+  -- which are written as the same bytes
+  pub normal-writes-back : {p p′ : List ℕ} {b : FramesAnswer} → 11 + 15 * again .triangles ≤ length p
+      → WritesFrames (again .vertices) (foundCorners again next′) p b p′ → foundBytes b p′ ≡ foundBytes a o′
+  normal-writes-back fits X =
+      let spelled : foundBytes a o′ ≡ normal bytes = found-normal R accepts enough W in
+      found-normal S (ap (λ (b : FramesAnswer). b .refusal) normal-answered) fits X
+      ∙ ap normal spelled ∙ normal-normal bytes ∙ sym spelled
+
+-- ---- 13 keeps no file out that the program has room for
+
+-- "A full file of 1,024 triangles now takes 16,396 bytes": no file that is read there is longer
+pub read-not-too-long : {bytes : List ℕ} {N : ℕ} {T : List ℕ} → Passed (readRules (3 * programTriangles) bytes)
+    → LinesSay bytes N T → length bytes ≤ mostBytes
+read-not-too-long {bytes} passed says =
+    let r = passed-read (3 * programTriangles) bytes passed says in
+    omega (arith, read-long _ _ bytes _ r, read-fits _ _ bytes _ r)

@@ -39,6 +39,7 @@ pub mod Complete
 pub mod Sound
 pub mod Reader
 pub mod Frames
+pub mod Normal
 pub mod FrameDemands
 pub mod Index
 pub mod IndexDemands

@@ -1,18 +1,21 @@
 -- The words in which demands 2 and 3, and the like of frames and of index texts, are said and that the rules do not
 -- need. The theorems are in `proofs/Demands`, `proofs/SeveralDemands`, `proofs/FrameDemands` and `proofs/IndexDemands`;
 -- no contract speaks of anything here.
-use Prim.Native.Nat.{ℕ, zero, suc, _+_, _*_, _≤_, _<_}
+use Prim.Native.Nat.{ℕ, zero, suc, _+_, _-_, _*_, _≤_, _<_}
 use mathlib.Core.Path.{_≡_}
 use mathlib.Core.Logic.{_⊎_, _↔_}
-use mathlib.Core.List.{List, map}
-use lib.ListN.{take}
+use mathlib.Core.Bool.{true, false, _&&_}
+use mathlib.Core.Option.{none, some}
+use mathlib.Core.List.{List, [], _∷_, map}
+use lib.Dec.{leb, eqb}
+use lib.ListN.{length, take}
 use Rattle.theory.specs.Limits.{mostVertices}
-use Rattle.theory.specs.Mesh.{triangles, Rotated, Proper}
+use Rattle.theory.specs.Mesh.{at, triangles, Rotated, Proper}
 use Rattle.theory.specs.Splitting.{edges, split}
 use Rattle.theory.specs.Reading.{Matched, Reading}
 use Rattle.theory.specs.Refusals.{Room, Short}
 use Rattle.theory.specs.Calls.{Answer, OneAnswer, SeveralAnswer, Outputs, acceptedMesh, written, zeros, Splits}
-use Rattle.theory.specs.Frames.{FramesAnswer}
+use Rattle.theory.specs.Frames.{FramesAnswer, frames, takeLine, corners, wrongLine, firstLine, laterLines}
 use Rattle.theory.specs.Index.{faces, textSays, indexText, TextAnswer}
 
 -- "room enough lent": no lent buffer is shorter than needed.
@@ -42,6 +45,32 @@ foundCorners answer out = take (3 * answer .triangles) out
 -- The frames that writing wrote, as a caller finds them: "11 + 15F bytes", F being the answer's.
 abbrev pub foundBytes : FramesAnswer → List ℕ → List ℕ
 foundBytes answer out = take (11 + 15 * answer .triangles) out
+
+-- #105, "its one normal spelling": the frames of what was read; no bytes where the lines say no mesh.
+unfoldable pub normal : List ℕ → List ℕ
+normal bytes =
+    elim (takeLine 0x4D 2 bytes) [
+      | none ↦ []
+      | some first ↦ elim (laterLines bytes) [
+        | corners T ↦ frames (firstLine bytes .vertices) T
+        | wrongLine place ↦ []
+      ]
+    ]
+
+-- "of upper case and LF": no byte is one of a to f, and none is CR.
+pub record OfUpperAndLF (bytes : List ℕ) : Type 0 where
+  pub noLower : (i : ℕ) → i < length bytes → 97 ≤ at bytes i → at bytes i ≤ 102 → ⊥
+  pub noCR : (i : ℕ) → i < length bytes → at bytes i ≡ 13 → ⊥
+
+-- A byte in upper case: A to F for a to f, any other as it is.
+unfoldable pub toUpper : ℕ → ℕ
+toUpper byte = elim (leb 97 byte && leb byte 102) [ true ↦ byte - 32 | false ↦ byte ]
+
+-- The bytes in upper case, without CR.
+unfoldable pub toUpperAndLF : List ℕ → List ℕ
+toUpperAndLF [] = []
+toUpperAndLF (byte ∷ bytes) =
+    elim (eqb byte 13) [ true ↦ toUpperAndLF bytes | false ↦ toUpper byte ∷ toUpperAndLF bytes ]
 
 -- The text that writing an index list wrote, as a caller finds it: so many bytes as the answer says.
 abbrev pub foundText : TextAnswer → List ℕ → List ℕ

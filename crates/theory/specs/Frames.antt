@@ -32,7 +32,7 @@ framesAccepted N F = record { refusal = 0; place = 0; vertices = N; triangles = 
 
 -- ---- writing
 
--- "Upper-case hexadecimal": the byte of the digit n.
+-- "Upper-case hexadecimal", and #105: "We go on writing upper case and LF": the byte of the digit n.
 unfoldable pub digit : ℕ → ℕ
 digit n = elim (ltb n 10) [ true ↦ 48 + n | false ↦ 55 + n ]
 
@@ -68,12 +68,15 @@ frames N T = meshLine N (triangles T) ++ triangleLines T (triangles T)
 
 -- ---- reading
 
--- The number that a byte stands for as a digit, if it is one: 0 to 9, A to F.
+-- #105: "Digits may be of either case": the number that a byte stands for, if it is one of 0 to 9, A to F, a to f.
 unfoldable pub digitValue : ℕ → Option ℕ
 digitValue byte =
     elim (leb 48 byte && leb byte 57) [
       | true ↦ some (byte - 48)
-      | false ↦ elim (leb 65 byte && leb byte 70) [ true ↦ some (byte - 55) | false ↦ none ]
+      | false ↦ elim (leb 65 byte && leb byte 70) [
+        | true ↦ some (byte - 55)
+        | false ↦ elim (leb 97 byte && leb byte 102) [ true ↦ some (byte - 87) | false ↦ none ]
+      ]
     ]
 
 -- What was read, and the bytes after it.
@@ -100,10 +103,15 @@ takeNumbers (suc n) bytes =
       ]
     ]
 
--- "each line ended by one LF".
+-- LF, the byte 10.
+unfoldable pub takeLF : List ℕ → Option (List ℕ)
+takeLF [] = none
+takeLF (byte ∷ bytes) = elim (eqb byte 10) [ true ↦ some bytes | false ↦ none ]
+
+-- #105: "each line may end in LF or CR LF"; CR is the byte 13.
 unfoldable pub takeEnd : List ℕ → Option (List ℕ)
 takeEnd [] = none
-takeEnd (byte ∷ bytes) = elim (eqb byte 10) [ true ↦ some bytes | false ↦ none ]
+takeEnd (byte ∷ bytes) = elim (eqb byte 13) [ true ↦ takeLF bytes | false ↦ takeLF (byte ∷ bytes) ]
 
 -- One line of a kind with n numbers.
 unfoldable pub takeLine : ℕ → ℕ → List ℕ → Option (Taken (List ℕ))

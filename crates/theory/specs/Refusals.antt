@@ -121,7 +121,7 @@ insideOut N T asked = record { number = 15; given = InsideOut N T asked }
 
 -- 12, "a frame not as required", is a row of `Frames`, where lines are.
 
--- 13: "program input above 16,384 bytes", of so many bytes.
+-- 13: "program input above" what #105 allows, 16,396 bytes; of so many bytes.
 abbrev pub inputTooLong : ℕ → Rule
 inputTooLong bytes = record { number = 13; given = noPlace (mostBytes < bytes) }
 

@@ -12,7 +12,7 @@ use Rattle.theory.specs.Limits.{mostTriangles, mostVertices}
 use Rattle.theory.specs.Mesh.{at, triangles}
 use Rattle.theory.specs.Calls.{written}
 use Rattle.theory.specs.Frames.{FramesAnswer, framesRefusal, framesAccepted, digitValue, takeDigits, takeNumbers}
-use Rattle.theory.specs.Frames.{takeEnd, takeLine, takeTriangles, ReadsFrames}
+use Rattle.theory.specs.Frames.{takeLF, takeEnd, takeLine, takeTriangles, ReadsFrames}
 use Rattle.theory.proofs.Tests.{and-sound, and₃-sound, eq→eqb}
 use Rattle.theory.proofs.Reader.{Frames, mesh, refused, meshOf, readFrames, read-refused, read-passed}
 use Rattle.theory_table.specs.Table.{reads, Satisfied}
@@ -65,7 +65,7 @@ readTest (refused number place) answer new =
 
 -- the same of a row
 unfoldable pub readRowTest : ℕ → List ℕ → FramesAnswer → List ℕ → Bool
-unfolding readTest readFrames takeLine takeTriangles meshOf takeDigits takeNumbers takeEnd digitValue
+unfolding readTest readFrames takeLine takeTriangles meshOf takeDigits takeNumbers takeEnd takeLF digitValue
 readRowTest room bytes answer new = readTest (readFrames room bytes) answer new
 
 -- then the row's result satisfies the promise

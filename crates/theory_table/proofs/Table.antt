@@ -1,6 +1,7 @@
--- The claim of the tables, `starred-holds` and `index-texts-hold`: every row's result is what the call's promise allows
--- on the row's input, and all that it allows. All rows are tested by one computation; that a row which passes its test
--- is satisfied is proved for all rows at once, and that the promise allows nothing else comes from `Determined`.
+-- The claim of the tables, `starred-holds`, `index-texts-hold` and `spellings-hold`: every row's result is what the
+-- call's promise allows on the row's input, and all that it allows. All rows of a table are tested by one computation;
+-- that a row which passes its test is satisfied is proved for all rows at once, and that the promise allows nothing
+-- else comes from `Determined`.
 use mathlib.Core.Bool.{Bool, true, _&&_}
 use mathlib.Core.List.{List, [], _∷_, List·Memᴰ as Member, List·Memᴰ·head as first, List·Memᴰ·tail as later}
 use lib.Dec.{T as So}
@@ -8,7 +9,7 @@ use Rattle.theory.proofs.Tests.{and-sound}
 use Rattle.theory.proofs.Determined.{splits-determined, undoes-one-determined, undoes-several-determined}
 use Rattle.theory.proofs.Determined.{reads-frames-determined, reads-index-determined, writes-index-determined}
 use Rattle.theory_table.specs.Table.{Row, splits, undoesOne, undoesSeveral, reads, readsIndex, writesIndex}
-use Rattle.theory_table.specs.Table.{Satisfied, Only, Holds, starred, indexTexts}
+use Rattle.theory_table.specs.Table.{Satisfied, Only, Holds, starred, indexTexts, spellings}
 use Rattle.theory_table.proofs.SplitTests.{splitTest, splitTest-sound}
 use Rattle.theory_table.proofs.UndoTests.{oneTest, oneTest-sound, undoSeveralTest, undoSeveralTest-sound}
 use Rattle.theory_table.proofs.FrameTests.{readRowTest, readRowTest-sound}
@@ -85,3 +86,12 @@ index-texts-pass = tt
 -- and holds
 pub index-texts-hold : (row : Row) → Member row indexTexts → Holds row
 index-texts-hold = rows-hold indexTexts index-texts-pass
+
+-- every row of the spellings passes its test
+spellings-pass : So (rowsTest spellings)
+unfolding rowsTest spellings
+spellings-pass = tt
+
+-- and holds
+pub spellings-hold : (row : Row) → Member row spellings → Holds row
+spellings-hold = rows-hold spellings spellings-pass

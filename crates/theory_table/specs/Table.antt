@@ -1,7 +1,7 @@
 -- Document 01, "Meshes to try": "The starred meshes form a single table under a single proved claim." Here are the
--- rows, what one row claims, and the table; and one more table, the index texts of document 02's #101. That every row
--- holds is `starred-holds` and `index-texts-hold` in `proofs/Table`. To add a row is one line of `starred` or
--- `indexTexts`.
+-- rows, what one row claims, and the table; and two more tables, the index texts of document 02's #101 and the
+-- spellings of frames of its #105. That every row holds is `starred-holds`, `index-texts-hold` and `spellings-hold` in
+-- `proofs/Table`. To add a row is one line of `starred`, `indexTexts` or `spellings`.
 use Prim.Native.Nat.{ℕ, zero, suc, _≤_}
 use Prim.Native.Char.{code}
 use Prim.Native.String.{String, len, charAt}
@@ -301,4 +301,37 @@ indexTexts =
     ∷ writesIndex 9 (0 ∷ 1 ∷ 2 ∷ 10 ∷ 65535 ∷ 3 ∷ []) 21 (textRefusal 5 0) []
     ∷ writesIndex 9 (0 ∷ 1 ∷ []) 30 (textRefusal 2 0) []
     ∷ writesIndex 40000 (0 ∷ 1 ∷ 2 ∷ []) 30 (textRefusal 4 0) []
+    ∷ []
+
+-- ---- spellings of frames
+
+-- A text and CR LF, as bytes.
+unfoldable pub textLineCR : String → List ℕ
+unfolding textBytes
+textLineCR text = textBytes text ++ (13 ∷ 10 ∷ [])
+
+-- The examples of #105 as they were decided, each under its words.
+unfoldable pub spellings : List Row
+unfolding textBytes textLine textLineCR
+spellings =
+    -- "`4d00000000` CR LF: V 0, F 0."
+    reads 0 (textLineCR "4d00000000") (framesAccepted 0 0) []
+    -- "`4D00000000` CR: 12 at 0."
+    ∷ reads 0 (textBytes "4D00000000" ++ (13 ∷ [])) (framesRefusal 12 0) []
+    -- "`4D00000000` LF CR: 12 at 1."
+    ∷ reads 0 (textLine "4D00000000" ++ (13 ∷ [])) (framesRefusal 12 1) []
+    -- "`4D00030001` CR LF `46000000010002` LF: accepted."
+    ∷ reads 3 (textLineCR "4D00030001" ++ textLine "46000000010002") (framesAccepted 3 1) (0 ∷ 1 ∷ 2 ∷ [])
+    -- "Kinds are digits too", "Case and line ends may be mixed within a file, a line, a number"
+    ∷ reads 3 (textLine "4d000a0001" ++ textLineCR "46aBcD0A0fEf01") (framesAccepted 10 1) (43981 ∷ 2575 ∷ 61185 ∷ [])
+    -- "A lone CR, CR CR LF and anything else is 12 at the line whose end is wrong"
+    ∷ reads 3 (textLine "4D00030001" ++ textBytes "46000000010002" ++ (13 ∷ [])) (framesRefusal 12 1) []
+    ∷ reads 0 (textBytes "4D00000000" ++ (13 ∷ 13 ∷ 10 ∷ [])) (framesRefusal 12 0) []
+    ∷ reads 0 (textBytes "4D00000000" ++ (32 ∷ 10 ∷ [])) (framesRefusal 12 0) []
+    -- "a CR after a right LF belongs to the next line"
+    ∷ reads 3 (textLine "4D00030001" ++ (13 ∷ textLine "46000000010002")) (framesRefusal 12 1) []
+    ∷ reads 3 (textLineCR "4D00030001" ++ textLineCR "46000000010002" ++ (13 ∷ [])) (framesRefusal 12 2) []
+    -- the letters after F are no digits, in either case
+    ∷ reads 3 (textLine "4D00030001" ++ textLine "4600000001000G") (framesRefusal 12 1) []
+    ∷ reads 3 (textLine "4D00030001" ++ textLine "4600000001000g") (framesRefusal 12 1) []
     ∷ []

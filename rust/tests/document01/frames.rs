@@ -32,8 +32,8 @@ fn the_least_and_the_largest_mesh() {
 #[test]
 fn wrong_lines_are_told() {
     assert_eq!(refused_at(b""), 0);
-    assert_eq!(refused_at(b"4d00000000\n"), 0);
-    assert_eq!(refused_at(b"4D00000000\r\n"), 0);
+    assert_eq!(refused_at(b"4G00000000\n"), 0);
+    assert_eq!(refused_at(b"4D00000000 \n"), 0);
     assert_eq!(refused_at(&SAMPLE[..SAMPLE.len() - 1]), 4);
     assert_eq!(refused_at(&[SAMPLE, b"\n"].concat()), 5);
     // The first line says 16,384 triangles, and only one line follows.

@@ -7,3 +7,4 @@ mod index_written;
 mod inside_out;
 #[path = "../document01/shapes.rs"]
 mod shapes;
+mod spellings;

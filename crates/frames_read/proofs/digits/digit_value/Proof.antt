@@ -1,38 +1,39 @@
--- `frames_read::digits::digit_value` meets its contract: the tests part the bytes as `digitValue` does.
+-- `frames_read::digits::digit_value` meets its contract: the entry of a byte is what it is given as.
 use native.Mathlib.Omega.{arith}
-use Prim.Native.Nat.{_+_, _-_}
-use mathlib.Core.Path.{_≡_, sym}
-use mathlib.Core.Logic.{⊎-elim}
+use Prim.Native.Nat.{ℕ}
+use mathlib.Core.Path.{_≡_, refl, sym, ap, _∙_}
+use mathlib.Core.Option.{Option, none, some}
 use borrow.Author.Needs.{needs}
-use borrow.Author.Tests.{leb-true, leb-false}
-use Rattle.theory.proofs.Frames.{digitValue-low, digitValue-high}
-use Rattle.frames_read.proofs.Takes.{digitValue-wrong}
+use Rattle.theory.specs.Mesh.{at}
+use Rattle.theory.specs.Frames.{digitValue}
+use Rattle.frames_read.specs.Parts.{entryOf, DigitGiven, digit, noDigit}
+use Rattle.frames_read.proofs.Takes.{given-most}
 use Rattle.frames_read.proofs.digits.digit_value.Statement.{statement}
 use Rattle.frames_read.proofs.digits.digit_value.Tie as tie
 
-cast-t5 : tie.Need-cast-t5
-cast-t5 c = search needs
+-- so it is with the entry of each byte
+entry-given : (byte entry : ℕ) → entry ≡ entryOf byte → DigitGiven byte entry
+unfolding entryOf
+entry-given byte entry e = go (digitValue byte) refl
+  where
+    go : (o : Option ℕ) → digitValue byte ≡ o → DigitGiven byte entry
+    go none f = noDigit f (cc)
+    go (some value) f =
+        let is : entry ≡ value = cc in
+        digit (f ∙ ap some (sym is))
+
+-- the entry that is looked up
+looked-up : (s : tie.Start) → DigitGiven (s .args .byte) (at (s .args .table .now) (s .args .byte))
+looked-up s = entry-given _ _ (s .pre .entries (s .args .byte) (search needs))
+
+shared-slice-read-result : tie.Need-shared-slice-read-result
+shared-slice-read-result c = search needs
+
+cast-result : tie.Need-cast-result
+cast-result c = omega (arith, given-most (looked-up (c .before)))
 
 returns : tie.Need-returns
-returns c = sym (digitValue-low _ (omega (arith, leb-true)) (omega (arith, leb-true)))
-
-add-t9 : tie.Need-add-t9
-add-t9 c = search needs
-
-cast-t10 : tie.Need-cast-t10
-cast-t10 c = search needs
-
-returns-2 : tie.Need-returns-2
-returns-2 c =
-    let b = c .before .before .before .args .byte in
-    let e : b - 65 + 10 ≡ b - 55 = omega (arith, leb-true) in
-    rw e (sym (digitValue-high b (omega (arith, leb-true)) (omega (arith, leb-true))))
-
-returns-3 : tie.Need-returns-3
-returns-3 c =
-    sym (digitValue-wrong _
-    (λ l. ⊎-elim (λ w. leb-false _ _ (w .1 .left)) (λ w. absurd (omega (arith, w .left))) (c .before .if1 .came))
-    (λ l. ⊎-elim (λ w. leb-false _ _ (w .1 .left)) (λ w. absurd (omega (arith, w .left))) (c .if3 .came)))
+returns c = looked-up (c .before)
 
 pub digit-value-spec : {M : Type 1} → statement M
-digit-value-spec = tie.close (tie.spec cast-t5 returns add-t9 cast-t10 returns-2 returns-3)
+digit-value-spec = tie.close (tie.spec shared-slice-read-result cast-result returns)

@@ -20,7 +20,7 @@ tested c = c .before .before .before .before
 
 -- the kind
 abbrev start : tie.After-known-told → tie.Start
-start c = tested c .before .before .before
+start c = tested c .before .before .before .before
 
 -- one number
 abbrev one : tie.After-known-told2 → tie.After-known-told
@@ -30,7 +30,7 @@ one c = c .before .before .before .before
 abbrev two : tie.After-known-told3 → tie.After-known-told2
 two c = c .before .before .before .before
 
-enough : (c : tie.Else1) → 11 ≤ length (c .before .before .before .args .bytes .now)
+enough : (c : tie.Else1) → 11 ≤ length (c .before .before .before .before .args .bytes .now)
 enough c = omega (arith, c .before .too-few .ensures .enough (c .if1 .left))
 
 none-read : (c : tie.After-known-told)
@@ -66,7 +66,9 @@ returns c =
     sym (ap given (no-line _ _ 0 _ (omega (arith, c .before .too-few .ensures .short (c .if1 .taken)))))
 
 take-kind-requires : tie.Need-take-kind-requires
-take-kind-requires c κs = record { small = omega arith; there = omega (arith, enough c) }
+take-kind-requires c κs =
+    let looked = c .before .before .before .before .pre in
+    record { small = omega arith; left = record { there = omega (arith, enough c); looked = looked } }
 
 enum-known-cursor : tie.Need-enum-known-cursor
 enum-known-cursor c = search needs
@@ -81,7 +83,7 @@ returns-2 c =
     sym (ap given (no-kind _ _ _ (sym (t .take-kind .ensures) ∙ ap (stepOf _) (c .enum-told .given .1))))
 
 take-number-requires : tie.Need-take-number-requires
-take-number-requires c κs = number-there _ 0 _ (enough (tested c)) (none-read c)
+take-number-requires c κs = number-there _ 0 _ (enough (tested c)) (start c .pre) (none-read c)
 
 enum-known-vertices : tie.Need-enum-known-vertices
 enum-known-vertices c = search needs
@@ -97,7 +99,7 @@ returns-3 c =
     (sym (t .take-number .ensures) ∙ ap (numberOf _) (c .enum-told2 .given .1))))
 
 take-number-requires-2 : tie.Need-take-number-requires-2
-take-number-requires-2 c κs = number-there _ 0 _ (enough (tested (one c))) (one-read c)
+take-number-requires-2 c κs = number-there _ 0 _ (enough (tested (one c))) (start (one c) .pre) (one-read c)
 
 enum-known-triangles : tie.Need-enum-known-triangles
 enum-known-triangles c = search needs

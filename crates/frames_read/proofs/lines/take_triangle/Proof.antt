@@ -20,7 +20,7 @@ tested c = c .before .before .before .before
 
 -- the kind
 abbrev start : tie.After-known-told → tie.Start
-start c = tested c .before .before .before
+start c = tested c .before .before .before .before
 
 -- one number
 abbrev one : tie.After-known-told2 → tie.After-known-told
@@ -39,7 +39,7 @@ abbrev from : tie.Start → List ℕ
 from s = drop (s .args .cursor .at) (s .args .bytes .now)
 
 enough : (c : tie.Else1)
-    → let s = c .before .before .before in
+    → let s = c .before .before .before .before in
     s .args .cursor .at + 15 ≤ length (s .args .bytes .now)
 enough c = omega (arith, c .before .too-few .ensures .enough (c .if1 .left))
 
@@ -83,12 +83,14 @@ too-few-requires c κs = search needs
 returns : tie.Need-returns
 unfolding given
 returns c =
-    let s = c .before .before .before in
+    let s = c .before .before .before .before in
     sym (ap given (no-line _ _ (s .args .cursor .at) (s .args .bytes .now)
     (omega (arith, c .before .too-few .ensures .short (c .if1 .taken)))))
 
 take-kind-requires : tie.Need-take-kind-requires
-take-kind-requires c κs = record { small = omega arith; there = omega (arith, enough c) }
+take-kind-requires c κs =
+    let looked = c .before .before .before .before .pre in
+    record { small = omega arith; left = record { there = omega (arith, enough c); looked = looked } }
 
 enum-known-cursor : tie.Need-enum-known-cursor
 enum-known-cursor c = search needs
@@ -103,7 +105,7 @@ returns-2 c =
     sym (ap given (no-kind _ _ _ (sym (t .take-kind .ensures) ∙ ap (stepOf _) (c .enum-told .given .1))))
 
 take-number-requires : tie.Need-take-number-requires
-take-number-requires c κs = number-there _ _ _ (enough (tested c)) (none-read c)
+take-number-requires c κs = number-there _ _ _ (enough (tested c)) (start c .pre) (none-read c)
 
 enum-known-a : tie.Need-enum-known-a
 enum-known-a c = search needs
@@ -119,7 +121,7 @@ returns-3 c =
     (sym (t .take-number .ensures) ∙ ap (numberOf _) (c .enum-told2 .given .1))))
 
 take-number-requires-2 : tie.Need-take-number-requires-2
-take-number-requires-2 c κs = number-there _ _ _ (enough (tested (one c))) (one-read c)
+take-number-requires-2 c κs = number-there _ _ _ (enough (tested (one c))) (start (one c) .pre) (one-read c)
 
 enum-known-b : tie.Need-enum-known-b
 enum-known-b c = search needs
@@ -135,7 +137,7 @@ returns-4 c =
     (sym (t .take-number2 .ensures) ∙ ap (numberOf _) (c .enum-told3 .given .1))))
 
 take-number-requires-3 : tie.Need-take-number-requires-3
-take-number-requires-3 c κs = number-there _ _ _ (enough (tested (one (two c)))) (two-read c)
+take-number-requires-3 c κs = number-there _ _ _ (enough (tested (one (two c)))) (start (one (two c)) .pre) (two-read c)
 
 enum-known-c : tie.Need-enum-known-c
 enum-known-c c = search needs

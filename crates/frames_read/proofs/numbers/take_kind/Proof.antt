@@ -1,55 +1,59 @@
--- `frames_read::numbers::take_kind` meets its contract: the bytes are those of the kind's two digits, or it is another kind.
-use mathlib.Core.Path.{_∙_, sym}
+-- `frames_read::numbers::take_kind` meets its contract: the two digits are those of the kind, or it is another kind.
+use native.Mathlib.Omega.{arith}
+use mathlib.Core.Path.{sym}
 use borrow.Author.Needs.{needs}
-use Rattle.frames_read.proofs.Takes.{takeKind-wrong, takeKind-here}
+use Rattle.frames_read.proofs.Takes.{kind-other-first, kind-other-second, kind-here}
 use Rattle.frames_read.proofs.numbers.take_kind.Statement.{statement}
 use Rattle.frames_read.proofs.numbers.take_kind.Tie as tie
 
-shared-slice-read-if1 : tie.Need-shared-slice-read-if1
-shared-slice-read-if1 c = search needs
+shared-slice-read-digit-value : tie.Need-shared-slice-read-digit-value
+shared-slice-read-digit-value c = search needs
 
-digit-byte-requires : tie.Need-digit-byte-requires
-digit-byte-requires c κs = search needs
+digit-value-requires : tie.Need-digit-value-requires
+digit-value-requires c κs = c .before .before .before .pre .left .looked
 
 returns : tie.Need-returns
 returns c =
-    let s = c .before .before .before .before in
-    sym (takeKind-wrong _ _ _ (s .pre) (λ same. c .if1 .taken (same .0 ∙ sym (c .before .digit-byte .ensures))))
+    let d = c .before in
+    let lent = d .before .before .before .before .pre in
+    sym (kind-other-first _ _ _ (lent .small) (lent .left .there) (d .digit-value .ensures) (c .if1 .taken))
 
-add-if2 : tie.Need-add-if2
-add-if2 c = search needs
+add-digit-value : tie.Need-add-digit-value
+add-digit-value c = search needs
 
-shared-slice-read-if2 : tie.Need-shared-slice-read-if2
-shared-slice-read-if2 c = search needs
+shared-slice-read-digit-value-2 : tie.Need-shared-slice-read-digit-value-2
+shared-slice-read-digit-value-2 c = search needs
 
-digit-byte-requires-2 : tie.Need-digit-byte-requires-2
-digit-byte-requires-2 c κs = search needs
+digit-value-requires-2 : tie.Need-digit-value-requires-2
+digit-value-requires-2 c κs = c .before .before .before .before .before .before .pre .left .looked
 
 returns-2 : tie.Need-returns-2
 returns-2 c =
-    let s = c .before .before .before .before .before .before .before in
-    sym (takeKind-wrong _ _ _ (s .pre) (λ same. c .if2 .taken (same .1 ∙ sym (c .before .digit-byte2 .ensures))))
+    let first = c .before .before .before in
+    let lent = first .before .before .before .before .before .pre in
+    sym (kind-other-second _ _ _ (lent .small) (lent .left .there) (first .before .digit-value .ensures)
+    (omega (arith, first .if1 .left)) (c .before .digit-value2 .ensures) (c .if2 .taken))
 
-add-t8 : tie.Need-add-t8
-add-t8 c = search needs
+add-t11 : tie.Need-add-t11
+add-t11 c = search needs
 
 returns-3 : tie.Need-returns-3
 returns-3 c =
-    let s = c .before .before .before .before .before .before .before in
     let first = c .before .before .before in
-    sym (takeKind-here _ _ _ (s .pre) (first .if1 .left ∙ first .before .digit-byte .ensures)
-    (c .if2 .left ∙ c .before .digit-byte2 .ensures))
+    let lent = first .before .before .before .before .before .pre in
+    sym (kind-here _ _ _ (lent .small) (lent .left .there) (first .before .digit-value .ensures)
+    (omega (arith, first .if1 .left)) (c .before .digit-value2 .ensures) (omega (arith, c .if2 .left)))
 
 pub take-kind-spec : {M : Type 1} → statement M
 take-kind-spec =
     tie.close
     (tie.spec
-    shared-slice-read-if1
-    digit-byte-requires
+    shared-slice-read-digit-value
+    digit-value-requires
     returns
-    add-if2
-    shared-slice-read-if2
-    digit-byte-requires-2
+    add-digit-value
+    shared-slice-read-digit-value-2
+    digit-value-requires-2
     returns-2
-    add-t8
+    add-t11
     returns-3)

@@ -1,172 +1,153 @@
--- `frames_read::numbers::take_number` meets its contract. The invariant: what is left to read after the digits so far is
--- what was to be read, the bytes of the digits that are left are there, and the value leaves room for those digits. The
--- measure is their number.
+-- `frames_read::numbers::take_number` meets its contract: the four digits are those that `takeDigits` takes, or one of
+-- them is none.
 use native.Mathlib.Omega.{arith}
-use Prim.Native.Nat.{ℕ, zero, suc, _+_, _-_, _*_, _/_, _≤_, _<_}
-use mathlib.Core.Path.{_≡_, refl, sym, ap, _∙_}
-use mathlib.Core.Option.{none, some}
-use mathlib.Core.List.{List}
-use lib.ListN.{length, drop}
+use Prim.Native.Nat.{_≤_, _<_}
+use mathlib.Core.Path.{sym}
 use borrow.Author.Needs.{needs}
-use Rattle.theory.specs.Mesh as mesh
-use Rattle.theory.specs.Frames.{digitValue, takeDigits}
-use Rattle.theory.proofs.Frames.{digit-digitValue}
-use Rattle.frames_read.specs.Parts.{DigitsLeft, digitOf}
-use Rattle.frames_read.proofs.Takes.{takeDigits-wrong, takeDigits-digit}
+use Rattle.frames_read.proofs.Takes.{given-digit, given-most, number-here, number-wrong}
 use Rattle.frames_read.proofs.numbers.take_number.Statement.{statement}
 use Rattle.frames_read.proofs.numbers.take_number.Tie as tie
 
--- what a value stays below while n digits are still to come: 65,536 for none, a sixteenth for each
-unfoldable bound : ℕ → ℕ
-bound zero = 65536
-bound (suc n) = bound n / 16
+-- the start, seen from after the four digits
+abbrev start : tie.After-digit-value4 → tie.Start
+start c = c .before .before .before .before .before .before .before .before .before .before
 
--- it is never more than that
-bound-most : (n : ℕ) → bound n ≤ 65536
-unfolding bound
-bound-most zero = omega arith
-bound-most (suc n) = omega (arith, bound-most n)
+-- what the four bytes are given as is small
+small : (c : tie.After-digit-value4)
+    → let second = c .before .before .before .before in
+    (second .before .before .digit-value .result ≤ 78) × (second .digit-value2 .result ≤ 78)
+    × (c .before .before .digit-value3 .result ≤ 78) × (c .digit-value4 .result ≤ 78)
+small c =
+    let second = c .before .before .before .before in (
+      given-most (second .before .before .digit-value .ensures),
+      given-most (second .digit-value2 .ensures),
+      given-most (c .before .before .digit-value3 .ensures),
+      given-most (c .digit-value4 .ensures),
+    )
 
--- 0 is below it for up to four digits
-bound-some : (n : ℕ) → n ≤ 4 → 0 < bound n
-unfolding bound
-bound-some zero l = omega arith
-bound-some (suc zero) l = omega arith
-bound-some (suc (suc zero)) l = omega arith
-bound-some (suc (suc (suc zero))) l = omega arith
-bound-some (suc (suc (suc (suc zero)))) l = omega arith
-bound-some (suc (suc (suc (suc (suc n))))) l = absurd (omega arith)
+-- and smaller where all are digits
+digits : (c : tie.Else1)
+    → let d = c .before in
+    let second = d .before .before .before .before in
+    (second .before .before .digit-value .result < 16) × (second .digit-value2 .result < 16)
+    × (d .before .before .digit-value3 .result < 16)
+digits c =
+    let d = c .before in
+    let second = d .before .before .before .before in (
+      given-digit (second .before .before .digit-value .ensures) (omega (arith, c .if1 .left)),
+      given-digit (second .digit-value2 .ensures) (omega (arith, c .if1 .left)),
+      given-digit (d .before .before .digit-value3 .ensures) (omega (arith, c .if1 .left)),
+    )
 
-record Turn (bytes : List ℕ) (digits start at left value : ℕ) : Type 0 where
-  small : value < bound left
-  there : at + left ≤ length bytes
-  same : takeDigits digits 0 (drop start bytes) ≡ takeDigits left value (drop at bytes)
+-- ---- the answers
 
--- nothing is read at first
-begun : {bytes : List ℕ} {digits at : ℕ} → DigitsLeft digits at bytes → Turn bytes digits at at digits 0
-begun {digits} lent = record { small = bound-some digits (lent .few); there = lent .there; same = refl }
+shared-slice-read-digit-value : tie.Need-shared-slice-read-digit-value
+shared-slice-read-digit-value c = search needs
 
-module _ {bytes : List ℕ} {digits start at left value : ℕ} (I : Turn bytes digits start at left value) where
-  -- one digit of those left
-  one-left : 0 < left → left ≡ suc (left - 1)
-  one-left l = omega arith
+digit-value-requires : tie.Need-digit-value-requires
+digit-value-requires c κs = c .before .before .before .pre .looked
 
-  -- a digit more still fits
-  fits : (d : ℕ) → 0 < left → digitValue (mesh.at bytes at) ≡ some d → 16 * value + d < bound (left - 1)
-  unfolding bound
-  fits d l e =
-      omega (arith, rw (one-left l) at (I .small), digit-digitValue (mesh.at bytes at) d e .0)
+add-digit-value : tie.Need-add-digit-value
+add-digit-value c = search needs
 
-  -- its byte is there
-  inside : 0 < left → at < length bytes
-  inside l = omega arith
+shared-slice-read-digit-value-2 : tie.Need-shared-slice-read-digit-value-2
+shared-slice-read-digit-value-2 c = search needs
 
-  -- a byte is no digit
-  wrong : 0 < left → none ≡ digitValue (mesh.at bytes at) → none ≡ takeDigits digits 0 (drop start bytes)
-  wrong l e = cc (one-left l, I .same, takeDigits-wrong bytes at (left - 1) value (inside l) (sym e))
+digit-value-requires-2 : tie.Need-digit-value-requires-2
+digit-value-requires-2 c κs = c .before .before .before .before .before .pre .looked
 
-  -- a byte is a digit
-  turned : (d : ℕ) → 0 < left → some d ≡ digitValue (mesh.at bytes at)
-      → Turn bytes digits start (at + 1) (left - 1) (16 * value + d)
-  turned d l e = record {
-    small = fits d l (sym e);
-    there = omega arith;
-    same = cc (one-left l, I .same, takeDigits-digit bytes at (left - 1) value d (inside l) (sym e));
-  }
+add-digit-value-2 : tie.Need-add-digit-value-2
+add-digit-value-2 c = search needs
 
-  -- all digits are read
-  finished : left ≤ 0 → some (record { value = value; rest = drop at bytes }) ≡ takeDigits digits 0 (drop start bytes)
-  unfolding takeDigits
-  finished l =
-      let e : left ≡ zero = omega arith in
-      cc (I .same)
+shared-slice-read-digit-value-3 : tie.Need-shared-slice-read-digit-value-3
+shared-slice-read-digit-value-3 c = search needs
 
-abbrev Inv-loop : tie.InvT-loop
-Inv-loop bytes digits at₀ left₀ value₀ at left value = Turn bytes digits at₀ at left value
+digit-value-requires-3 : tie.Need-digit-value-requires-3
+digit-value-requires-3 c κs = c .before .before .before .before .before .before .before .pre .looked
 
-abbrev μ-loop : tie.MeasureT-loop
-μ-loop bytes digits at₀ left₀ value₀ at left value = left
+add-digit-value-3 : tie.Need-add-digit-value-3
+add-digit-value-3 c = search needs
 
--- the turn that reads a digit
-abbrev turn : tie.After-digit-value Inv-loop μ-loop → tie.In-loop Inv-loop μ-loop
-turn t = t .before .before
+shared-slice-read-digit-value-4 : tie.Need-shared-slice-read-digit-value-4
+shared-slice-read-digit-value-4 c = search needs
 
--- what was read is a digit
-told : (c : tie.After-known-told Inv-loop μ-loop)
-    → let l = turn (c .before .before .before) .before in
-    some (c .before .digit .given .0 .0) ≡ digitValue (mesh.at (l .before .before .args .bytes .now) (l .loop .at))
-told c = sym (ap digitOf (c .before .digit .given .1)) ∙ c .before .before .before .digit-value .ensures
+digit-value-requires-4 : tie.Need-digit-value-requires-4
+digit-value-requires-4 c κs = c .before .before .before .before .before .before .before .before .before .pre .looked
 
--- and it fits after those before it
-fitting : (c : tie.After-known-told Inv-loop μ-loop)
-    → 16 * turn (c .before .before .before) .before .loop .value + c .before .digit .given .0 .0 < 65536
-fitting c =
-    let l = turn (c .before .before .before) in
-    let below = fits (l .before .loop .inv) _ (l .loop-test .taken) (sym (told c)) in
-    omega (arith, below, bound-most (l .before .loop .left - 1))
+mul-if1 : tie.Need-mul-if1
+mul-if1 c = search needs
 
-loop-holds : tie.Need-loop-holds Inv-loop μ-loop
-loop-holds c = begun (c .before .pre)
+add-if1 : tie.Need-add-if1
+add-if1 c = omega (arith, small c)
 
-shared-slice-read-digit-value : tie.Need-shared-slice-read-digit-value Inv-loop μ-loop
-shared-slice-read-digit-value c = inside (c .before .before .loop .inv) (c .before .loop-test .taken)
+add-if1-2 : tie.Need-add-if1-2
+add-if1-2 c = omega (arith, small c)
 
-digit-value-requires : tie.Need-digit-value-requires Inv-loop μ-loop
-digit-value-requires c κs = search needs
+add-if1-3 : tie.Need-add-if1-3
+add-if1-3 c = omega (arith, small c)
 
-enum-known-digit : tie.Need-enum-known-digit Inv-loop μ-loop
-enum-known-digit c = search needs
-
-enum-told : tie.Need-enum-told Inv-loop μ-loop
-enum-told c = search needs
-
-returns : tie.Need-returns Inv-loop μ-loop
+returns : tie.Need-returns
 returns c =
-    let t = c .before .before in
-    wrong (turn t .before .loop .inv) (turn t .loop-test .taken)
-    (sym (ap digitOf (c .enum-told .given .1)) ∙ t .digit-value .ensures)
+    let d = c .before in
+    let second = d .before .before .before .before in
+    sym (number-wrong _ _ (start d .pre .there) (second .before .before .digit-value .ensures)
+    (second .digit-value2 .ensures) (d .before .before .digit-value3 .ensures) (d .digit-value4 .ensures)
+    (omega (arith, c .if1 .taken)))
 
-mul-value : tie.Need-mul-value Inv-loop μ-loop
-mul-value c = omega (arith, fitting c)
+mul-t15 : tie.Need-mul-t15
+mul-t15 c = search needs
 
-add-value : tie.Need-add-value Inv-loop μ-loop
-add-value c = record { fits = fitting c }
+add-t16 : tie.Need-add-t16
+add-t16 c = search needs
 
-add-at : tie.Need-add-at Inv-loop μ-loop
-add-at c =
-    let l = turn (c .before .before .before) in
-    omega (arith, inside (l .before .loop .inv) (l .loop-test .taken))
+mul-t18 : tie.Need-mul-t18
+mul-t18 c = search needs
 
-sub-left : tie.Need-sub-left Inv-loop μ-loop
-sub-left c = omega arith
+add-t17 : tie.Need-add-t17
+add-t17 c = search needs
 
-loop-less : tie.Need-loop-less Inv-loop μ-loop
-loop-less c = omega arith
+mul-t20 : tie.Need-mul-t20
+mul-t20 c = omega (arith, digits c)
 
-loop-again : tie.Need-loop-again Inv-loop μ-loop
-loop-again c =
-    let t = c .before .before .before in
-    turned (turn t .before .loop .inv) _ (turn t .loop-test .taken) (told c)
+add-t21 : tie.Need-add-t21
+add-t21 c = omega (arith, digits c, small (c .before))
 
-returns-2 : tie.Need-returns-2 Inv-loop μ-loop
-returns-2 c = finished (c .before .loop .inv) (c .loop-test .left)
+add-t11 : tie.Need-add-t11
+add-t11 c = search needs
+
+returns-2 : tie.Need-returns-2
+returns-2 c =
+    let d = c .before in
+    let second = d .before .before .before .before in
+    sym (number-here _ _ (start d .pre .there) (second .before .before .digit-value .ensures)
+    (second .digit-value2 .ensures) (d .before .before .digit-value3 .ensures) (d .digit-value4 .ensures)
+    (omega (arith, c .if1 .left)) (omega arith))
 
 pub take-number-spec : {M : Type 1} → statement M
 take-number-spec =
     tie.close
     (tie.spec
-    Inv-loop
-    μ-loop
-    loop-holds
     shared-slice-read-digit-value
     digit-value-requires
-    enum-known-digit
-    enum-told
+    add-digit-value
+    shared-slice-read-digit-value-2
+    digit-value-requires-2
+    add-digit-value-2
+    shared-slice-read-digit-value-3
+    digit-value-requires-3
+    add-digit-value-3
+    shared-slice-read-digit-value-4
+    digit-value-requires-4
+    mul-if1
+    add-if1
+    add-if1-2
+    add-if1-3
     returns
-    mul-value
-    add-value
-    add-at
-    sub-left
-    loop-less
-    loop-again
+    mul-t15
+    add-t16
+    mul-t18
+    add-t17
+    mul-t20
+    add-t21
+    add-t11
     returns-2)

@@ -1,25 +1,30 @@
 -- `frames_read::reading::read` meets its contract: the tests are those of the rows, in their order.
 use native.Mathlib.Omega.{arith}
 use Prim.Native.Nat.{ℕ, _≤_, _<_}
-use mathlib.Core.Path.{_≡_, _∙_, sym, ap}
+use mathlib.Core.Path.{_≡_, _∙_, refl, sym, ap}
 use mathlib.Core.Logic.{inl, inr}
 use mathlib.Core.Option.{some}
 use mathlib.Core.List.{List, [], _∷_}
-use lib.ListN.{drop}
+use lib.ListN.{length, drop}
 use borrow.Author.Needs.{needs}
 use Rattle.theory.specs.Limits.{mostTriangles, mostVertices}
 use Rattle.theory.specs.Frames.{takeLine}
 use Rattle.theory.proofs.Reader.{first-line-refused, large-refused, short-refused}
+use Rattle.frames_read.specs.Parts.{DigitTable}
 use Rattle.frames_read.specs.Given.{meshGiven}
 use Rattle.frames_read.proofs.Triangles.{whole-taken, refused-not-taken}
-use Rattle.frames_read.proofs.Verdicts.{judged-lent, refused-read, judged-read}
+use Rattle.frames_read.proofs.Verdicts.{refused-read, lines-refused, lines-read}
 use Rattle.frames_read.proofs.reading.read.Statement.{statement}
 use Rattle.frames_read.proofs.reading.read.Tie as tie
 
 -- ---- what is known on the way
 
 abbrev start : tie.After-known-told → tie.Start
-start c = c .before .before .before .before .before .before
+start c = c .before .before .before .before .before .before .before .before
+
+-- the table of digits
+looked : (c : tie.After-known-told) → DigitTable (c .before .before .before .before .before .digit-table .result)
+looked c = c .before .before .before .before .before .digit-table .ensures
 
 -- the counts of the mesh
 abbrev N : tie.After-known-told → ℕ
@@ -47,10 +52,20 @@ within c =
     let lent = start (c .before .before) .pre in
     (omega (arith, lent .triangles, c .before .if1 .left), omega (arith, lent .vertices, c .if2 .left))
 
+-- the mesh line, seen from past the test of the room
+abbrev mesh-told : tie.Else3 → tie.After-known-told
+mesh-told c = c .before .before .before
+
 -- ---- the answers
 
+digit-table-requires : tie.Need-digit-table-requires
+digit-table-requires c κs = search needs
+
+slice-aggregate-take-mesh : tie.Need-slice-aggregate-take-mesh
+slice-aggregate-take-mesh c = search needs
+
 take-mesh-requires : tie.Need-take-mesh-requires
-take-mesh-requires c κs = search needs
+take-mesh-requires c κs = c .before .digit-table .ensures
 
 enum-known-vertices : tie.Need-enum-known-vertices
 enum-known-vertices c = search needs
@@ -94,38 +109,70 @@ returns-4 c =
     refused-read _ _ _ _
     (short-refused _ _ _ (mesh-line (c .before .before .before)) (w .0) (w .1) (c .if3 .taken))
 
-cast-judge-triangles : tie.Need-cast-judge-triangles
-cast-judge-triangles c = search needs
+cast-vertices : tie.Need-cast-vertices
+cast-vertices c = search needs
 
-judge-triangles-requires : tie.Need-judge-triangles-requires
-judge-triangles-requires c κs = search needs
+slice-aggregate-take-triangles : tie.Need-slice-aggregate-take-triangles
+slice-aggregate-take-triangles c = search needs
 
-lines-to-write-requires : tie.Need-lines-to-write-requires
-lines-to-write-requires c κs = search needs
+take-triangles-requires : tie.Need-take-triangles-requires
+take-triangles-requires c κs =
+    let room = c .before .before in
+    record {
+      few = omega (arith, within (room .before) .0);
+      looked = looked (mesh-told room);
+      room = room .if3 .left;
+    }
 
-read-triangles-requires : tie.Need-read-triangles-requires
-read-triangles-requires c κs =
-    let w = c .before in
-    let j = w .before in
-    judged-lent (j .judge-triangles .ensures) (w .lines-to-write .ensures) (j .before .if3 .left)
+enum-told-2 : tie.Need-enum-told-2
+enum-told-2 c = search needs
+
+enum-told-3 : tie.Need-enum-told-3
+enum-told-3 c = search needs
 
 same-length : tie.Need-same-length
 same-length c = search needs
 
 returns-5 : tie.Need-returns-5
 returns-5 c =
-    let r = c .before .before in
-    let w = r .before .before in
-    let j = w .before in
-    let room = j .before in
+    let t = c .before .before .before .before in
+    let room = t .before .before .before in
     let limits = within (room .before) in
-    judged-read _ _ (mesh-line (room .before .before .before)) (limits .0) (limits .1) (room .if3 .left)
-    (j .judge-triangles .ensures) (w .lines-to-write .ensures) (r .read-triangles .ensures)
+    lines-refused _ _ (mesh-line (mesh-told room)) (limits .0) (limits .1) (room .if3 .left)
+    (t .take-triangles .ensures) (c .enum-told3 .given .1)
+
+slice-aggregate-take-triangles-2 : tie.Need-slice-aggregate-take-triangles-2
+slice-aggregate-take-triangles-2 c = search needs
+
+take-triangles-requires-2 : tie.Need-take-triangles-requires-2
+take-triangles-requires-2 c κs =
+    let t = c .before .before .before .before .before .before in
+    let room = t .before .before .before in
+    record {
+      few = omega (arith, within (room .before) .0);
+      looked = looked (mesh-told room);
+      room = omega (arith, room .if3 .left, ap length (t .take-triangles .ensures .stays refl));
+    }
+
+same-length-2 : tie.Need-same-length-2
+same-length-2 c = search needs
+
+returns-6 : tie.Need-returns-6
+returns-6 c =
+    let again = c .before .before in
+    let told = again .before .before .before in
+    let t = told .before .before .before .before in
+    let room = t .before .before .before in
+    let limits = within (room .before) in
+    lines-read _ _ (mesh-line (mesh-told room)) (limits .0) (limits .1) (room .if3 .left)
+    (t .take-triangles .ensures) (told .enum-told2 .given .1) (again .take-triangles2 .ensures)
 
 pub read-spec : {M : Type 1} → statement M
 read-spec =
     tie.close
     (tie.spec
+    digit-table-requires
+    slice-aggregate-take-mesh
     take-mesh-requires
     enum-known-vertices
     enum-told
@@ -137,9 +184,14 @@ read-spec =
     cast-triangles
     mul-if3
     returns-4
-    cast-judge-triangles
-    judge-triangles-requires
-    lines-to-write-requires
-    read-triangles-requires
+    cast-vertices
+    slice-aggregate-take-triangles
+    take-triangles-requires
+    enum-told-2
+    enum-told-3
     same-length
-    returns-5)
+    returns-5
+    slice-aggregate-take-triangles-2
+    take-triangles-requires-2
+    same-length-2
+    returns-6)
