@@ -15,22 +15,7 @@ use Rattle.theory.proofs.Frames.{digit-below, takeDigits-length}
 use Rattle.frames_read.specs.Parts.{DigitTable, DigitGiven, digit, noDigit, DigitsLeft, takeKind}
 use Rattle.lists.proofs.Lists.{drop-inside}
 
--- ---- numbers
-
-module _ (bytes : List ℕ) (i n before : ℕ) where
-  -- a byte that is no digit is refused
-  takeDigits-wrong : i < length bytes → digitValue (at bytes i) ≡ none
-      → takeDigits (suc n) before (drop i bytes) ≡ none
-  unfolding takeDigits
-  takeDigits-wrong l e = cc (drop-inside bytes i l)
-
-  -- a digit is taken, and the others from the next place on
-  takeDigits-digit : (d : ℕ) → i < length bytes → digitValue (at bytes i) ≡ some d
-      → takeDigits (suc n) before (drop i bytes) ≡ takeDigits n (16 * before + d) (drop (i + 1) bytes)
-  unfolding takeDigits
-  takeDigits-digit d l e = cc (drop-inside bytes i l)
-
--- ---- four digits that are tested together
+-- ---- digits
 
 -- a byte that is given as no more than four digits are together is a digit
 is-digit : {byte given : ℕ} → DigitGiven byte given → given ≤ 60 → digitValue byte ≡ some given
@@ -46,35 +31,58 @@ pub given-most : {byte given : ℕ} → DigitGiven byte given → given ≤ 78
 given-most {byte} {given} (digit e) = omega (arith, digit-below byte given e)
 given-most (noDigit e f) = omega arith
 
-module _ (bytes : List ℕ) (i : ℕ) where
-  -- a digit is taken, and the others from the next place on
-  step : (next n before d : ℕ) → next ≡ i + 1 → i < length bytes → digitValue (at bytes i) ≡ some d
-      → takeDigits (suc n) before (drop i bytes) ≡ takeDigits n (16 * before + d) (drop next bytes)
-  step next n before d s l e = cc (s, takeDigits-digit bytes i n before d l e)
-
-  -- from a place on, two digits
-  two-digits : (v w : ℕ) → i + 2 ≤ length bytes → digitValue (at bytes i) ≡ some v
-      → digitValue (at bytes (i + 1)) ≡ some w
-      → takeDigits 2 0 (drop i bytes) ≡ some (record { value = 16 * v + w; rest = drop (i + 2) bytes })
+module _ (bytes : List ℕ) (i n before : ℕ) where
+  -- a byte that is no digit is refused
+  takeDigits-wrong : i < length bytes → digitValue (at bytes i) ≡ none
+      → takeDigits (suc n) before (drop i bytes) ≡ none
   unfolding takeDigits
-  two-digits v w l e f =
-      let s : i + 1 + 1 ≡ i + 2 = omega arith in
-      let z : 16 * (16 * 0 + v) + w ≡ 16 * v + w = omega arith in
-      step (i + 1) 1 0 v refl (omega arith) e ∙ takeDigits-digit bytes (i + 1) 0 (16 * 0 + v) w (omega arith) f ∙ rw (s, z)
+  takeDigits-wrong l e = cc (drop-inside bytes i l)
+
+  -- a digit is taken, and the others from the next place on
+  takeDigits-digit : (next d : ℕ) → next ≡ i + 1 → i < length bytes → digitValue (at bytes i) ≡ some d
+      → takeDigits (suc n) before (drop i bytes) ≡ takeDigits n (16 * before + d) (drop next bytes)
+  unfolding takeDigits
+  takeDigits-digit next d s l e = cc (s, drop-inside bytes i l)
+
+-- ---- digits one after the other, from a place on
+
+module _ (bytes : List ℕ) (i n : ℕ) {a : ℕ} where
+  -- one is taken
+  one-taken : i < length bytes → digitValue (at bytes i) ≡ some a
+      → takeDigits (suc n) 0 (drop i bytes) ≡ takeDigits n a (drop (i + 1) bytes)
+  one-taken l e =
+      let v : 16 * 0 + a ≡ a = omega arith in
+      takeDigits-digit bytes i n 0 (i + 1) a refl l e ∙ rw v
+
+module _ (bytes : List ℕ) (i : ℕ) {a b : ℕ} (e : digitValue (at bytes i) ≡ some a)
+    (f : digitValue (at bytes (i + 1)) ≡ some b) where
+  -- two are
+  two-taken : (n : ℕ) → i + 1 < length bytes
+      → takeDigits (suc (suc n)) 0 (drop i bytes) ≡ takeDigits n (16 * a + b) (drop (i + 2) bytes)
+  two-taken n l =
+      one-taken bytes i (suc n) (omega arith) e
+      ∙ takeDigits-digit bytes (i + 1) n a (i + 2) b (omega arith) l f
+
+  -- three are
+  three-taken : (n : ℕ) {c : ℕ} → i + 2 < length bytes → digitValue (at bytes (i + 2)) ≡ some c
+      → takeDigits (suc (suc (suc n))) 0 (drop i bytes) ≡ takeDigits n (16 * (16 * a + b) + c) (drop (i + 3) bytes)
+  three-taken n {c} l g =
+      two-taken (suc n) (omega arith) ∙ takeDigits-digit bytes (i + 2) n (16 * a + b) (i + 3) c (omega arith) l g
+
+-- ---- four digits that are tested together
 
 module _ (bytes : List ℕ) (i : ℕ) {a b c d : ℕ} (there : i + 4 ≤ length bytes) (A : DigitGiven (at bytes i) a)
-    (B : DigitGiven (at bytes (i + 1)) b) (C : DigitGiven (at bytes (i + 2)) c) (D : DigitGiven (at bytes (i + 3)) d) where
+    (B : DigitGiven (at bytes (i + 1)) b) (C : DigitGiven (at bytes (i + 2)) c)
+    (D : DigitGiven (at bytes (i + 3)) d) where
   -- the number that four digits are
   pub number-here : {v : ℕ} → a + b + c + d ≤ 60 → v ≡ 16 * (16 * (16 * a + b) + c) + d
       → takeDigits 4 0 (drop i bytes) ≡ some (record { value = v; rest = drop (i + 4) bytes })
   unfolding takeDigits
   number-here {v} l e =
-      let w : 16 * (16 * (16 * (16 * 0 + a) + b) + c) + d ≡ v = omega arith in
-      step bytes i (i + 1) 3 0 a refl (omega arith) (is-digit A (omega arith))
-      ∙ step bytes (i + 1) (i + 2) 2 _ b (omega arith) (omega arith) (is-digit B (omega arith))
-      ∙ step bytes (i + 2) (i + 3) 1 _ c (omega arith) (omega arith) (is-digit C (omega arith))
-      ∙ step bytes (i + 3) (i + 4) 0 _ d (omega arith) (omega arith) (is-digit D (omega arith))
-      ∙ rw w
+      three-taken bytes i (is-digit A (omega arith)) (is-digit B (omega arith)) 1 (omega arith)
+      (is-digit C (omega arith))
+      ∙ takeDigits-digit bytes (i + 3) 0 _ (i + 4) d (omega arith) (omega arith) (is-digit D (omega arith))
+      ∙ rw e
 
   -- where they are together more than digits are, one of them is none
   pub number-wrong : 60 < a + b + c + d → takeDigits 4 0 (drop i bytes) ≡ none
@@ -84,16 +92,11 @@ module _ (bytes : List ℕ) (i : ℕ) {a b c d : ℕ} (there : i + 4 ≤ length 
           → DigitGiven (at bytes (i + 3)) d → takeDigits 4 0 (drop i bytes) ≡ none
       go (noDigit e _) p q r = takeDigits-wrong bytes i 3 0 (omega arith) e
       go (digit e) (noDigit f _) q r =
-          step bytes i (i + 1) 3 0 a refl (omega arith) e ∙ takeDigits-wrong bytes (i + 1) 2 _ (omega arith) f
+          one-taken bytes i 3 (omega arith) e ∙ takeDigits-wrong bytes (i + 1) 2 a (omega arith) f
       go (digit e) (digit f) (noDigit g _) r =
-          step bytes i (i + 1) 3 0 a refl (omega arith) e
-          ∙ step bytes (i + 1) (i + 2) 2 _ b (omega arith) (omega arith) f
-          ∙ takeDigits-wrong bytes (i + 2) 1 _ (omega arith) g
+          two-taken bytes i e f 2 (omega arith) ∙ takeDigits-wrong bytes (i + 2) 1 _ (omega arith) g
       go (digit e) (digit f) (digit g) (noDigit h _) =
-          step bytes i (i + 1) 3 0 a refl (omega arith) e
-          ∙ step bytes (i + 1) (i + 2) 2 _ b (omega arith) (omega arith) f
-          ∙ step bytes (i + 2) (i + 3) 1 _ c (omega arith) (omega arith) g
-          ∙ takeDigits-wrong bytes (i + 3) 0 _ (omega arith) h
+          three-taken bytes i e f 1 (omega arith) g ∙ takeDigits-wrong bytes (i + 3) 0 _ (omega arith) h
       go (digit e) (digit f) (digit g) (digit h) =
           absurd (omega (arith, digit-below _ a e, digit-below _ b f, digit-below _ c g, digit-below _ d h))
 
@@ -152,20 +155,25 @@ module _ (kind : ℕ) (bytes : List ℕ) where
   takeKind-here {v} e same = cc (eq-eqb v kind same)
 
 -- a kind at a place, of which the two bytes are given as digits
-module _ (kind : ℕ) (bytes : List ℕ) (i : ℕ) {h : ℕ} (small : kind < 256) (there : i + 2 ≤ length bytes) (H : DigitGiven (at bytes i) h) where
+module _ (kind : ℕ) (bytes : List ℕ) (i : ℕ) {h : ℕ} (small : kind < 256) (there : i + 2 ≤ length bytes)
+    (H : DigitGiven (at bytes i) h) where
+  -- without a second digit there is none
+  no-second : digitValue (at bytes i) ≡ some h → digitValue (at bytes (i + 1)) ≡ none
+      → takeKind kind (drop i bytes) ≡ none
+  no-second e f =
+      takeKind-none kind _ (one-taken bytes i 1 (omega arith) e ∙ takeDigits-wrong bytes (i + 1) 0 h (omega arith) f)
+
   -- the first is that of another kind
   pub kind-other-first : (h ≡ kind / 16 → ⊥) → takeKind kind (drop i bytes) ≡ none
+  unfolding takeDigits
   kind-other-first not = go H (digitValue (at bytes (i + 1))) refl
     where
       go : DigitGiven (at bytes i) h → (o : Option ℕ) → digitValue (at bytes (i + 1)) ≡ o
           → takeKind kind (drop i bytes) ≡ none
       go (noDigit e _) o f = takeKind-none kind _ (takeDigits-wrong bytes i 1 0 (omega arith) e)
-      go (digit e) none f =
-          takeKind-none kind _ (step bytes i (i + 1) 1 0 h refl (omega arith) e
-          ∙ takeDigits-wrong bytes (i + 1) 0 _ (omega arith) f)
+      go (digit e) none f = no-second e f
       go (digit e) (some w) f =
-          takeKind-wrong kind _ (two-digits bytes i h w (omega arith) e f)
-          (λ same. not (omega (arith, digit-below _ w f)))
+          takeKind-wrong kind _ (two-taken bytes i e f 0 (omega arith)) (λ same. not (omega (arith, digit-below _ w f)))
 
   module _ {l : ℕ} (first : h ≡ kind / 16) (L : DigitGiven (at bytes (i + 1)) l) where
     -- the first is a digit
@@ -174,20 +182,20 @@ module _ (kind : ℕ) (bytes : List ℕ) (i : ℕ) {h : ℕ} (small : kind < 256
 
     -- the second is that of another kind
     pub kind-other-second : (l ≡ kind % 16 → ⊥) → takeKind kind (drop i bytes) ≡ none
+    unfolding takeDigits
     kind-other-second not = go L
       where
         go : DigitGiven (at bytes (i + 1)) l → takeKind kind (drop i bytes) ≡ none
-        go (noDigit f _) =
-            takeKind-none kind _ (step bytes i (i + 1) 1 0 h refl (omega arith) first-digit
-            ∙ takeDigits-wrong bytes (i + 1) 0 _ (omega arith) f)
+        go (noDigit f _) = no-second first-digit f
         go (digit f) =
-            takeKind-wrong kind _ (two-digits bytes i h l (omega arith) first-digit f)
+            takeKind-wrong kind _ (two-taken bytes i first-digit f 0 (omega arith))
             (λ same. not (omega (arith, digit-below _ l f)))
 
     -- both are those of the kind
     pub kind-here : l ≡ kind % 16 → takeKind kind (drop i bytes) ≡ some (drop (i + 2) bytes)
+    unfolding takeDigits
     kind-here second =
-        takeKind-here kind _ (two-digits bytes i h l (omega arith) first-digit (is-digit L (omega arith))) (omega arith)
+        takeKind-here kind _ (two-taken bytes i first-digit (is-digit L (omega arith)) 0 (omega arith)) (omega arith)
 
 -- a kind that is taken is two bytes
 takeKind-length : (kind : ℕ) (bytes rest : List ℕ) → takeKind kind bytes ≡ some rest → length bytes ≡ 2 + length rest
@@ -293,8 +301,8 @@ module _ {kind n : ℕ} {bytes so-far rest : List ℕ} where
 -- where a whole line of bytes is left from place i on, and it has been read up to place j
 module _ {kind n : ℕ} {so-far : List ℕ} (bytes : List ℕ) (i j : ℕ) (left : i + (3 + 4 * n) ≤ length bytes) where
   -- the bytes of a number that is to come are there
-  pub number-there : {m : ℕ} {table : List ℕ} → DigitTable table → Begun kind n (drop i bytes) (suc m) so-far (drop j bytes)
-      → DigitsLeft 4 j bytes table
+  pub number-there : {m : ℕ} {table : List ℕ} → DigitTable table
+      → Begun kind n (drop i bytes) (suc m) so-far (drop j bytes) → DigitsLeft 4 j bytes table
   number-there looked I =
       record { there = omega (arith, simp length-drop at (I .used)); looked = looked }
 

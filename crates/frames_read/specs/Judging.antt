@@ -32,7 +32,8 @@ pub data LinesJudged (N F : ℕ) (taken : Corners) : Verdict → Type 0 where
 
 -- With it, where the lines are right and their corners are to be written, these stand in front; and where they are not
 -- to be written, nothing changes.
-pub record TrianglesTaken (N F : ℕ) (bytes : List ℕ) (writing : Bool) (answer : Verdict) (out out′ : List ℕ) : Type 0 where
+pub record TrianglesTaken (N F : ℕ) (bytes : List ℕ) (writing : Bool) (answer : Verdict) (out out′ : List ℕ)
+    : Type 0 where
   pub judged : LinesJudged N F (takeTriangles F 1 [] bytes) answer
   pub long : (T : List ℕ) → takeTriangles F 1 [] bytes ≡ corners T → length T ≡ 3 * F
   pub puts : writing ≡ true → (T : List ℕ) → takeTriangles F 1 [] bytes ≡ corners T → out′ ≡ written T out

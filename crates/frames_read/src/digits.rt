@@ -2,8 +2,8 @@
 ghost use Rattle.frames_read.specs.Parts.{DigitTable, DigitGiven};
 
 // The table of digits, a row for sixteen bytes: the values of 0 to 9, A to F and a to f, and `N`, which is 78, for any
-// other. To look a byte up takes the same time whatever it is; whether a digit is a letter would be guessed wrong half of
-// the time.
+// other. To look a byte up takes the same time whatever it is; whether a digit is a letter would be guessed wrong half
+// of the time.
 pub(crate) fn digit_table() -> [u8; 256]
     ensures { λ r. ⌜ DigitTable r ⌝ }
 {

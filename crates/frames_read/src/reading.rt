@@ -31,8 +31,8 @@ fn put_corners(out: &mut [u16], k: usize, writing: bool, a: u16, b: u16, c: u16)
 }
 
 // Takes the triangle lines of a mesh with these counts, from the cursor on: each must be as required, and nothing come
-// after the last. It is called to judge them and then to write their corners: as one function, so that the line reader is
-// compiled into its loop, which it would be into neither of two.
+// after the last. It is called to judge them and then to write their corners: as one function, so that the line reader
+// is compiled into its loop, which it would be into neither of two.
 fn take_triangles(
     bytes: &[u8],
     table: &[u8],

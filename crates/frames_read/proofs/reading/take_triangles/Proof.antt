@@ -1,6 +1,6 @@
--- `frames_read::reading::take_triangles` meets its contract. The invariant: the first k lines are read, up to the cursor,
--- and their corners stand in front of what was there, if they are to be written. The measure is what is left of the
--- lines.
+-- `frames_read::reading::take_triangles` meets its contract. The invariant: the first k lines are read, up to the
+-- cursor, and their corners stand in front of what was there, if they are to be written. The measure is what is left of
+-- the lines.
 use native.Mathlib.Omega.{arith}
 use Prim.Native.Nat.{ℕ, _+_, _-_, _*_, _≤_, _<_}
 use mathlib.Core.Path.{_≡_, _∙_, refl, sym, ap}
