@@ -2,7 +2,7 @@
 use Prim.Native.Nat.{ℕ, _*_, _≤_}
 use native.Mathlib.Omega.{arith}
 use mathlib.Core.Path.{_≡_, refl, sym, ap, _∙_, subst}
-use mathlib.Core.Bool.{true, false}
+use mathlib.Core.Bool.{Bool, true, false}
 use mathlib.Core.Option.{some}
 use mathlib.Core.List.{List, [], _∷_}
 use lib.ListN.{length}
@@ -36,9 +36,10 @@ module _ (bytes out : List ℕ) where
   module _ {N F : ℕ} {rest : List ℕ} (line : takeLine 0x4D 2 bytes ≡ some (record { value = N ∷ F ∷ []; rest = rest }))
       (few : F ≤ mostTriangles) (low : N ≤ mostVertices) (fits : 3 * F ≤ length out) where
     -- a verdict that is a refusal, with nothing written
-    pub lines-refused : {number place : ℕ} {v : Verdict} {mid : List ℕ} → TrianglesTaken N F rest false v out mid
-        → v ≡ verdict.Refused number place → ReadsFrames bytes out (answerOf v) mid
-    lines-refused {number} {place} done told = rw (done .stays refl) (go (done .judged) told)
+    pub lines-refused : {number place : ℕ} {writing : Bool} {v : Verdict} {mid : List ℕ} → writing ≡ false
+        → TrianglesTaken N F rest writing v out mid → v ≡ verdict.Refused number place
+        → ReadsFrames bytes out (answerOf v) mid
+    lines-refused {number} {place} judging done told = rw (done .stays judging) (go (done .judged) told)
       where
         go : {v : Verdict} → LinesJudged N F (takeTriangles F 1 [] rest) v → v ≡ verdict.Refused number place
             → ReadsFrames bytes out (answerOf v) out

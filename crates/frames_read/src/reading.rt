@@ -5,6 +5,7 @@ use super::lines::TriangleFrame;
 use super::lines::take_mesh;
 use super::lines::take_triangle;
 use super::numbers::Cursor;
+use lists::write_three;
 ghost use Prim.Native.Nat.{_+_, _*_, _≤_};
 ghost use mathlib.Core.List.{[], _∷_};
 ghost use lib.ListN.{length, drop};
@@ -25,9 +26,7 @@ fn put_corners(out: &mut [u16], k: usize, writing: bool, a: u16, b: u16, c: u16)
     if !writing {
         return;
     }
-    out[3 * k] = a;
-    out[3 * k + 1] = b;
-    out[3 * k + 2] = c;
+    write_three(out, k, a, b, c);
 }
 
 // Takes the triangle lines of a mesh with these counts, from the cursor on: each must be as required, and nothing come

@@ -1,10 +1,11 @@
-// Small loops over slices of 16-bit entries: an entry as an index, the lesser of two numbers, fill and copy, ranks of
-// marked indices, and values at their keys. It knows nothing of meshes, takes time linear in the numbers that it is
-// given, and assumes nothing.
+// Small loops over slices of 16-bit entries: an entry as an index, the lesser of two numbers, fill and copy, three
+// entries at a time, ranks of marked indices, and values at their keys. It knows nothing of meshes, takes time linear in
+// the numbers that it is given, and assumes nothing.
 ghost use mathlib.Core.Path.{_≡_};
-ghost use Prim.Native.Nat.{_<_, _≤_, min};
-ghost use mathlib.Core.List.{_++_};
+ghost use Prim.Native.Nat.{_+_, _*_, _<_, _≤_, min};
+ghost use mathlib.Core.List.{[], _∷_, _++_};
 ghost use lib.ListN.{length, take, drop, replicate};
+ghost use lib.Seq.{sets};
 ghost use Rattle.theory.specs.Mesh.{at};
 ghost use Rattle.theory.specs.Calls.{zeros};
 ghost use Rattle.lists.specs.Places.{Place};
@@ -58,6 +59,16 @@ pub fn copy(from: &[u16], to: &mut [u16], n: usize)
         to[i] = from[i];
         i += 1;
     }
+}
+
+// Writes three entries as those of the k-th three.
+pub fn write_three(s: &mut [u16], k: usize, a: u16, b: u16, c: u16)
+    requires { ⌜ 3 * k + 3 ≤ length (now s) ⌝ }
+    ensures { λ _. ⌜ now (s .exit) ≡ sets (now (s .entry)) (3 * k) (a ∷ b ∷ c ∷ []) ⌝ }
+{
+    s[3 * k] = a;
+    s[3 * k + 1] = b;
+    s[3 * k + 2] = c;
 }
 
 // The least index below `n` whose entry is 0, or `n` where there is none.

@@ -2,10 +2,10 @@
 // each triangle becomes. Both go once over the half-edges. Assumes nothing.
 use lists::at;
 use lists::fill;
+use lists::write_three;
 use mesh_rings::ring::chosen;
 ghost use mathlib.Core.Path.{_≡_};
-ghost use Prim.Native.Nat.{ℕ, _+_, _*_, _≤_};
-ghost use mathlib.Core.List.{[], _∷_};
+ghost use Prim.Native.Nat.{ℕ, _+_, _*_};
 ghost use lib.Seq.{sets};
 ghost use Rattle.theory.specs.Splitting.{edgeNo, split};
 ghost use Rattle.theory.specs.Calls.{written};
@@ -83,18 +83,8 @@ fn write_four(list: &[u16], k: usize, numbers: &[u16], out: &mut [u16])
     let e12 = numbers[3 * k];
     let e23 = numbers[3 * k + 1];
     let e31 = numbers[3 * k + 2];
-    write_triangle(out, 4 * k, e12, e23, e31);
-    write_triangle(out, 4 * k + 1, v1, e12, e31);
-    write_triangle(out, 4 * k + 2, v2, e23, e12);
-    write_triangle(out, 4 * k + 3, v3, e31, e23);
-}
-
-// The three corners of triangle t.
-pub fn write_triangle(out: &mut [u16], t: usize, a: u16, b: u16, c: u16)
-    requires { do ⌜ 3 * t + 3 ≤ (← ⟦out.len()⟧) ⌝ }
-    ensures { λ _. ⌜ now (out .exit) ≡ sets (now (out .entry)) (3 * t) (a ∷ b ∷ c ∷ []) ⌝ }
-{
-    out[3 * t] = a;
-    out[3 * t + 1] = b;
-    out[3 * t + 2] = c;
+    write_three(out, 4 * k, e12, e23, e31);
+    write_three(out, 4 * k + 1, v1, e12, e31);
+    write_three(out, 4 * k + 2, v2, e23, e12);
+    write_three(out, 4 * k + 3, v3, e31, e23);
 }

@@ -1,8 +1,8 @@
 // Tiles: triangles with three regular edges and three different vertices across them.
 use lists::at;
+use lists::write_three;
 use mesh_faults::has_equal;
 use mesh_mates::has_mate;
-use split::write_triangle;
 ghost use Prim.Native.Nat.{_+_, _*_, _<_, _≤_};
 ghost use Rattle.mesh_mates.specs.Others.{HasMate};
 ghost use Rattle.lists.specs.Decides.{Decides};
@@ -28,7 +28,7 @@ fn row(k: usize, triangles: usize, other: &[u16], thirds: &[u16], rows: &mut [u1
         (now (rows .exit)) ⌝ }
 {
     if !all_mated(k, 3 * triangles, other) {
-        return write_triangle(rows, k, 0, 0, 0);
+        return write_three(rows, k, 0, 0, 0);
     }
     let a = thirds[at(other, 3 * k + 2)];
     let b = thirds[at(other, 3 * k)];
@@ -56,7 +56,7 @@ fn write_row(k: usize, a: u16, b: u16, c: u16, rows: &mut [u16])
     ensures { λ _. ⌜ RowWritten k a b c (now (rows .entry)) (now (rows .exit)) ⌝ }
 {
     if has_equal(a, b, c) {
-        return write_triangle(rows, k, 0, 0, 0);
+        return write_three(rows, k, 0, 0, 0);
     }
-    write_triangle(rows, k, a, b, c);
+    write_three(rows, k, a, b, c);
 }

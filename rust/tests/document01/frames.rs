@@ -1,16 +1,9 @@
 //! Document 01, "Frames".
 
-use crate::shapes::{sample, split_times, triangle};
+use crate::shapes::{refused_at, sample, split_times, triangle};
 use flatcarol::{Limits, Mesh, Refusal};
 
 const SAMPLE: &[u8] = include_bytes!("../../../samples/example.frames");
-
-fn refused_at(bytes: &[u8]) -> usize {
-    match Mesh::from_frames(bytes) {
-        Err(Refusal::FrameNotAsRequired { line }) => line,
-        other => panic!("{other:?}"),
-    }
-}
 
 #[test]
 fn the_sample_is_read_and_written() {

@@ -1,6 +1,14 @@
-//! The meshes that are tried.
+//! The meshes that are tried, and what is asked of frames that are refused.
 
-use flatcarol::{Mesh, Room};
+use flatcarol::{Mesh, Refusal, Room};
+
+// The line of frames that is not as required.
+pub fn refused_at(bytes: &[u8]) -> usize {
+    match Mesh::from_frames(bytes) {
+        Err(Refusal::FrameNotAsRequired { line }) => line,
+        other => panic!("{other:?}"),
+    }
+}
 
 pub fn triangle() -> Mesh {
     Mesh::new(3, [0, 1, 2])

@@ -1,5 +1,6 @@
 //! #105: lower-case frames and CR LF.
 
+use crate::shapes::refused_at;
 use flatcarol::{read_frames, Limits, Mesh, Refusal};
 
 // Two triangles of which each has letters among its digits.
@@ -11,13 +12,6 @@ fn mesh() -> Mesh {
 
 fn with_cr(bytes: &[u8]) -> Vec<u8> {
     bytes.iter().flat_map(|&byte| if byte == b'\n' { vec![b'\r', b'\n'] } else { vec![byte] }).collect()
-}
-
-fn refused_at(bytes: &[u8]) -> usize {
-    match Mesh::from_frames(bytes) {
-        Err(Refusal::FrameNotAsRequired { line }) => line,
-        other => panic!("{other:?}"),
-    }
 }
 
 #[test]

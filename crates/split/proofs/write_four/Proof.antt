@@ -101,38 +101,38 @@ mul-e31-2 c = search needs
 shared-slice-read-e31 : tie.Need-shared-slice-read-e31
 shared-slice-read-e31 c = search needs
 
-mul-write-triangle : tie.Need-mul-write-triangle
-mul-write-triangle c = search needs
+mul-write-three : tie.Need-mul-write-three
+mul-write-three c = search needs
 
-write-triangle-requires : tie.Need-write-triangle-requires
-write-triangle-requires c κs = search needs
+write-three-requires : tie.Need-write-three-requires
+write-three-requires c κs = search needs
 
-mul-write-triangle-2 : tie.Need-mul-write-triangle-2
-mul-write-triangle-2 c = search needs
+mul-write-three-2 : tie.Need-mul-write-three-2
+mul-write-three-2 c = search needs
 
-add-write-triangle : tie.Need-add-write-triangle
-add-write-triangle c = search needs
+add-write-three : tie.Need-add-write-three
+add-write-three c = search needs
 
-write-triangle-requires-2 : tie.Need-write-triangle-requires-2
-write-triangle-requires-2 c κs = search needs
+write-three-requires-2 : tie.Need-write-three-requires-2
+write-three-requires-2 c κs = search needs
 
-mul-write-triangle-3 : tie.Need-mul-write-triangle-3
-mul-write-triangle-3 c = search needs
+mul-write-three-3 : tie.Need-mul-write-three-3
+mul-write-three-3 c = search needs
 
-add-write-triangle-2 : tie.Need-add-write-triangle-2
-add-write-triangle-2 c = search needs
+add-write-three-2 : tie.Need-add-write-three-2
+add-write-three-2 c = search needs
 
-write-triangle-requires-3 : tie.Need-write-triangle-requires-3
-write-triangle-requires-3 c κs = search needs
+write-three-requires-3 : tie.Need-write-three-requires-3
+write-three-requires-3 c κs = search needs
 
-mul-write-triangle-4 : tie.Need-mul-write-triangle-4
-mul-write-triangle-4 c = search needs
+mul-write-three-4 : tie.Need-mul-write-three-4
+mul-write-three-4 c = search needs
 
-add-write-triangle-3 : tie.Need-add-write-triangle-3
-add-write-triangle-3 c = search needs
+add-write-three-3 : tie.Need-add-write-three-3
+add-write-three-3 c = search needs
 
-write-triangle-requires-4 : tie.Need-write-triangle-requires-4
-write-triangle-requires-4 c κs = search needs
+write-three-requires-4 : tie.Need-write-three-requires-4
+write-three-requires-4 c κs = search needs
 
 same-length : tie.Need-same-length
 same-length c = search needs
@@ -143,8 +143,8 @@ returns c =
     let third = fourth .before .before .before .before in
     let second = third .before .before .before .before in
     let first = second .before .before .before .before in
-    stored _ _ _ _ (first .write-triangle .ensures) (second .write-triangle2 .ensures)
-    (third .write-triangle3 .ensures) (fourth .write-triangle4 .ensures)
+    stored _ _ _ _ (first .write-three .ensures) (second .write-three2 .ensures)
+    (third .write-three3 .ensures) (fourth .write-three4 .ensures)
 
 pub write-four-spec : {M : Type 1} → statement M
 write-four-spec =
@@ -172,16 +172,16 @@ write-four-spec =
     add-e31
     mul-e31-2
     shared-slice-read-e31
-    mul-write-triangle
-    write-triangle-requires
-    mul-write-triangle-2
-    add-write-triangle
-    write-triangle-requires-2
-    mul-write-triangle-3
-    add-write-triangle-2
-    write-triangle-requires-3
-    mul-write-triangle-4
-    add-write-triangle-3
-    write-triangle-requires-4
+    mul-write-three
+    write-three-requires
+    mul-write-three-2
+    add-write-three
+    write-three-requires-2
+    mul-write-three-3
+    add-write-three-2
+    write-three-requires-3
+    mul-write-three-4
+    add-write-three-3
+    write-three-requires-4
     same-length
     returns)

@@ -1,13 +1,12 @@
--- `frames_read::reading::put_corners` meets its contract: three stores, or none.
+-- `frames_read::reading::put_corners` meets its contract: what `write_three` writes, or nothing.
 use native.Mathlib.Omega.{arith}
-use Prim.Native.Nat.{ℕ, _+_, _*_}
-use mathlib.Core.Path.{_≡_, refl}
+use Prim.Native.Nat.{ℕ, _*_}
+use mathlib.Core.Path.{_≡_, refl, sym}
 use mathlib.Core.Bool.{Bool, true, false}
 use mathlib.Core.List.{List, [], _∷_}
-use lib.ListN.{length-set, set}
+use lib.Seq.{sets}
 use borrow.Author.Needs.{needs}
 use borrow.Author.Tests.{not-true, not-false}
-use Rattle.lists.proofs.Stores.{three-stores}
 use Rattle.frames_read.specs.Judging.{CornersPut}
 use Rattle.frames_read.proofs.reading.put_corners.Statement.{statement}
 use Rattle.frames_read.proofs.reading.put_corners.Tie as tie
@@ -17,71 +16,27 @@ module _ {k : ℕ} {writing : Bool} {a b c : ℕ} {out : List ℕ} where
   stays : writing ≡ false → CornersPut k writing (a ∷ b ∷ c ∷ []) out out
   stays not = record { puts = λ is. let z : _≡_ {A = ℕ} 0 1 = cc in absurd (omega arith); stays = λ _. refl }
 
-  -- the corners are written, where what is stored are they
-  puts : {x y z : ℕ} → writing ≡ true → x ≡ a → y ≡ b → z ≡ c
-      → CornersPut k writing (a ∷ b ∷ c ∷ []) out (set (set (set out (3 * k) x) (3 * k + 1) y) (3 * k + 2) z)
-  puts is p q r = record {
-    puts = λ _. rw (p, q, r) (three-stores out (3 * k) a b c);
+  -- the corners are written, where what is written are they
+  puts : {x y z : ℕ} {out′ : List ℕ} → writing ≡ true → out′ ≡ sets out (3 * k) (x ∷ y ∷ z ∷ [])
+      → x ≡ a → y ≡ b → z ≡ c → CornersPut k writing (a ∷ b ∷ c ∷ []) out out′
+  puts is e p q r = record {
+    puts = λ _. rw (sym p, sym q, sym r) e;
     stays = λ not. let z : _≡_ {A = ℕ} 0 1 = cc in absurd (omega arith);
   }
 
 returns : tie.Need-returns
 returns c = stays (not-true _ (c .if1 .taken))
 
-mul-out : tie.Need-mul-out
-mul-out c = search needs
-
-mul-out-2 : tie.Need-mul-out-2
-mul-out-2 c = search needs
-
-slice-write-out : tie.Need-slice-write-out
-slice-write-out c = search needs
-
-mul-out-3 : tie.Need-mul-out-3
-mul-out-3 c = search needs
-
-add-out : tie.Need-add-out
-add-out c = search needs
-
-mul-out-4 : tie.Need-mul-out-4
-mul-out-4 c = search needs
-
-slice-write-out-2 : tie.Need-slice-write-out-2
-slice-write-out-2 c = simp length-set (omega arith)
-
-mul-out-5 : tie.Need-mul-out-5
-mul-out-5 c = search needs
-
-add-out-2 : tie.Need-add-out-2
-add-out-2 c = search needs
-
-mul-out-6 : tie.Need-mul-out-6
-mul-out-6 c = search needs
-
-slice-write-out-3 : tie.Need-slice-write-out-3
-slice-write-out-3 c = simp length-set (omega arith)
+write-three-requires : tie.Need-write-three-requires
+write-three-requires c κs = search needs
 
 same-length : tie.Need-same-length
 same-length c = search needs
 
 returns-2 : tie.Need-returns-2
-returns-2 c = puts (not-false _ (c .if1 .left)) (omega arith) (omega arith) (omega arith)
+returns-2 c =
+    let w = c .before .before in
+    puts (not-false _ (w .before .before .if1 .left)) (w .write-three .ensures) (omega arith) (omega arith) (omega arith)
 
 pub put-corners-spec : {M : Type 1} → statement M
-put-corners-spec =
-    tie.close
-    (tie.spec
-    returns
-    mul-out
-    mul-out-2
-    slice-write-out
-    mul-out-3
-    add-out
-    mul-out-4
-    slice-write-out-2
-    mul-out-5
-    add-out-2
-    mul-out-6
-    slice-write-out-3
-    same-length
-    returns-2)
+put-corners-spec = tie.close (tie.spec returns write-three-requires same-length returns-2)

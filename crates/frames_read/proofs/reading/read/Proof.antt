@@ -138,7 +138,7 @@ returns-5 c =
     let t = c .before .before .before .before in
     let room = t .before .before .before in
     let limits = within (room .before) in
-    lines-refused _ _ (mesh-line (mesh-told room)) (limits .0) (limits .1) (room .if3 .left)
+    lines-refused _ _ (mesh-line (mesh-told room)) (limits .0) (limits .1) (room .if3 .left) refl
     (t .take-triangles .ensures) (c .enum-told3 .given .1)
 
 slice-aggregate-take-triangles-2 : tie.Need-slice-aggregate-take-triangles-2

@@ -134,8 +134,8 @@ mul-all-mated c = search needs
 all-mated-requires : tie.Need-all-mated-requires
 all-mated-requires c κs = search needs
 
-write-triangle-requires : tie.Need-write-triangle-requires
-write-triangle-requires c κs = search needs
+write-three-requires : tie.Need-write-three-requires
+write-three-requires c κs = search needs
 
 same-length : tie.Need-same-length
 same-length c = search needs
@@ -145,7 +145,7 @@ returns c =
     let call = c .before .before in
     let test = call .before .before in
     unmated (start (test .before) .pre) (decided-not (test .before .all-mated .ensures) (not-true _ (test .if1 .taken)))
-    (call .write-triangle .ensures)
+    (call .write-three .ensures)
 
 mul-at : tie.Need-mul-at
 mul-at c = search needs
@@ -211,7 +211,7 @@ row-spec =
     (tie.spec
     mul-all-mated
     all-mated-requires
-    write-triangle-requires
+    write-three-requires
     same-length
     returns
     mul-at

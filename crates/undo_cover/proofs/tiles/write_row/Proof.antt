@@ -19,8 +19,8 @@ none-equal H e Q =
 has-equal-requires : tie.Need-has-equal-requires
 has-equal-requires c κs = search needs
 
-write-triangle-requires : tie.Need-write-triangle-requires
-write-triangle-requires c κs = search needs
+write-three-requires : tie.Need-write-three-requires
+write-three-requires c κs = search needs
 
 same-length : tie.Need-same-length
 same-length c = search needs
@@ -29,10 +29,10 @@ returns : tie.Need-returns
 returns c =
     let call = c .before .before in
     let test = call .before .before in
-    rw (call .write-triangle .ensures) (equal (test .before .has-equal .ensures .sound (test .if1 .taken)))
+    rw (call .write-three .ensures) (equal (test .before .has-equal .ensures .sound (test .if1 .taken)))
 
-write-triangle-requires-2 : tie.Need-write-triangle-requires-2
-write-triangle-requires-2 c κs = search needs
+write-three-requires-2 : tie.Need-write-three-requires-2
+write-three-requires-2 c κs = search needs
 
 same-length-2 : tie.Need-same-length-2
 same-length-2 c = search needs
@@ -41,16 +41,16 @@ returns-2 : tie.Need-returns-2
 returns-2 c =
     let call = c .before .before in
     let test = call .before .before in
-    rw (call .write-triangle2 .ensures) (different (none-equal (test .before .has-equal .ensures) (test .if1 .left)))
+    rw (call .write-three2 .ensures) (different (none-equal (test .before .has-equal .ensures) (test .if1 .left)))
 
 pub write-row-spec : {M : Type 1} → statement M
 write-row-spec =
     tie.close
     (tie.spec
     has-equal-requires
-    write-triangle-requires
+    write-three-requires
     same-length
     returns
-    write-triangle-requires-2
+    write-three-requires-2
     same-length-2
     returns-2)
