@@ -41,7 +41,7 @@ data Splittings (N : ℕ) (T : List ℕ) : ℕ → ℕ → List ℕ → Type 0 w
       → Splittings N T (suc times) (M + edges S) (split M S)
 
 -- the calls make these splittings
-split-times-splittings : {N times M : ℕ} {T S : List ℕ} → SplitTimes N T times M S → Splittings N T times M S
+split-times-splittings : {N : ℕ} {T : List ℕ} {times M : ℕ} {S : List ℕ} → SplitTimes N T times M S → Splittings N T times M S
 split-times-splittings never = untouched
 split-times-splittings {N} {T = T} (once_more {times} {M} {S} {out' = out'} {answer = a} before splits none) =
     go (split-accepted splits none) (split-times-splittings before)
@@ -52,7 +52,7 @@ split-times-splittings {N} {T = T} (once_more {times} {M} {S} {out' = out'} {ans
         subst₂ (Splittings N T (suc times)) (sym A.vertices) (sym A.found) (another rest A.within)
 
 -- and for these splittings there are such calls
-splittings-split-times : {N times M : ℕ} {T S : List ℕ} → Splittings N T times M S → SplitTimes N T times M S
+splittings-split-times : {N : ℕ} {T : List ℕ} {times M : ℕ} {S : List ℕ} → Splittings N T times M S → SplitTimes N T times M S
 splittings-split-times untouched = never
 splittings-split-times {N} {T = T} (another {times} {M} {S} before W) =
     subst (SplitTimes N T (suc times) (M + edges S)) (split-accepted splits refl).found
@@ -70,7 +70,7 @@ splittings-split-times {N} {T = T} (another {times} {M} {S} before W) =
     splits = split-accepts W enough
 
 -- what they make is within undo's limits, if the mesh is
-splittings-within : {N times M : ℕ} {T S : List ℕ} → Within most_triangles N T → Splittings N T times M S
+splittings-within : {N : ℕ} {T : List ℕ} {times M : ℕ} {S : List ℕ} → Within most_triangles N T → Splittings N T times M S
     → Within most_triangles M S
 splittings-within W untouched = W
 splittings-within W (another _ W') = split-within W'
@@ -83,7 +83,7 @@ role-zero R = record {
 }
 
 -- as many levels undone, each in role 0, leave the mesh
-splittings-undone : {N times M : ℕ} {T S : List ℕ} → Splittings N T times M S
+splittings-undone : {N : ℕ} {T : List ℕ} {times M : ℕ} {S : List ℕ} → Splittings N T times M S
     → Several times M S times (replicate times 0) N T
 splittings-undone untouched = reached
 splittings-undone (another {times} {M} {S} before W) = undone (itself M S) (role-zero R) R (splittings-undone before)
@@ -134,19 +134,19 @@ several-seven {levels = levels} {M} {T} {roles} {C} W S = go (dec_lt levels most
 -- ---- demand 2: what is split so many times and undone as many levels is the mesh again
 
 -- nothing is split more than seven times
-pub split-times-at-most : {N times M : ℕ} {T S : List ℕ} → SplitTimes N T times M S → times ≤ most_levels
+pub split-times-at-most : {N : ℕ} {T : List ℕ} {times M : ℕ} {S : List ℕ} → SplitTimes N T times M S → times ≤ most_levels
 split-times-at-most C = go (split-times-splittings C)
   where
-    go : {N times M : ℕ} {T S : List ℕ} → Splittings N T times M S → times ≤ most_levels
+    go : {N : ℕ} {T : List ℕ} {times M : ℕ} {S : List ℕ} → Splittings N T times M S → times ≤ most_levels
     go untouched = omega arith
     go (another before W) = several-few (split-within W) (splittings-undone (another before W))
 
 -- what is split at all is within split's limits, and so within undo's
-pub split-times-within : {N times M : ℕ} {T S : List ℕ} → SplitTimes N T (suc times) M S
+pub split-times-within : {N : ℕ} {T : List ℕ} {times M : ℕ} {S : List ℕ} → SplitTimes N T (suc times) M S
     → Within most_split_triangles N T
 split-times-within C = go (split-times-splittings C)
   where
-    go : {N times M : ℕ} {T S : List ℕ} → Splittings N T (suc times) M S → Within most_split_triangles N T
+    go : {N : ℕ} {T : List ℕ} {times M : ℕ} {S : List ℕ} → Splittings N T (suc times) M S → Within most_split_triangles N T
     go (another untouched W) = W
     go (another (another before W) _) = go (another before W)
 

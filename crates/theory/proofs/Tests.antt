@@ -113,6 +113,7 @@ some_of-sound test (x ∷ xs) t = go (some_of-sound test xs) (or_sound (test x) 
 -- it is enough that one passes
 pub some_of-complete : (test : ℕ → Bool) (xs : List ℕ) (x : ℕ) → Member x xs → So (test x) → So (some_of test xs)
 unfolding some_of
+some_of-complete test [] y x3 t = elim x3 [ ]
 some_of-complete test (x ∷ xs) y (first e) t = or_left (test x) (some_of test xs) (rw e at t)
 some_of-complete test (x ∷ xs) y (later m) t = or_right (test x) (some_of test xs) (some_of-complete test xs y m t)
 
@@ -126,6 +127,7 @@ all_of test (x ∷ xs) =
 -- then each passes
 pub all_of-sound : (test : ℕ → Bool) (xs : List ℕ) → So (all_of test xs) → (x : ℕ) → Member x xs → So (test x)
 unfolding all_of
+all_of-sound test [] t y x3 = elim x3 [ ]
 all_of-sound test (x ∷ xs) t y (first e) = rw e (and_sound (test x) (all_of test xs) t).0
 all_of-sound test (x ∷ xs) t y (later m) = all_of-sound test xs (and_sound (test x) (all_of test xs) t).1 y m
 
@@ -200,6 +202,7 @@ passing-sound test (x ∷ xs) y m = go (passing-sound test xs y) (test x) refl m
 -- an entry that passes is kept
 pub passing-complete : (test : ℕ → Bool) (xs : List ℕ) (y : ℕ) → Member y xs → So (test y) → Member y (passing test xs)
 unfolding passing
+passing-complete test [] y x'' t = elim x'' [ ]
 passing-complete test (x ∷ xs) y (first p) t = go (test x) (rw p at t)
   where
     go : (b : Bool) → So b → Member y (cond b (x ∷ passing test xs) (passing test xs))
@@ -243,6 +246,7 @@ numbers-length (suc n) = ap suc (numbers-length n)
 -- each is below n
 numbers-below : (n i : ℕ) → Member i (numbers n) → i < n
 unfolding numbers
+numbers-below zero i x' = elim x' [ ]
 numbers-below (suc n) i (first e) = omega arith
 numbers-below (suc n) i (later m) = omega (arith, numbers-below n i m)
 
