@@ -1,5 +1,7 @@
 // Refusals 1 to 5 of the calls, which are judged from numbers alone. It takes the same few steps whatever it is given,
 // and assumes nothing.
+#![tactic(auto)]
+
 ghost use Rattle.std.specs.Prelude.{ℕ, ◌*◌, ◌/◌, ◌≤◌, [], ◌∷◌};
 ghost use Rattle.theory.specs.Limits.{most_triangles, most_vertices};
 ghost use Rattle.theory.specs.Refusals.{asked_too_much, too_short};

@@ -1,5 +1,7 @@
 // What split does once its sizes are judged: all but the clearing of its work buffers. It takes time linear in vertices
 // and triangles, and assumes nothing.
+#![tactic(auto)]
+
 ghost use Rattle.std.specs.Prelude.{[], ◌∷◌};
 ghost use Rattle.answers.specs.Answers.{answer_of};
 ghost use Rattle.calls_split.specs.Splitting.{SplitLent, SplitsMesh};

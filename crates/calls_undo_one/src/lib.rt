@@ -1,5 +1,7 @@
 // What undo one does once its sizes are judged: all but the clearing of its work buffers. It takes time linear in
 // vertices and triangles, and assumes nothing.
+#![tactic(auto)]
+
 ghost use Rattle.answers.specs.Answers.{one_answer_of, outputs};
 ghost use Rattle.undo_role.specs.Buffers.{buffers};
 ghost use Rattle.calls_undo_one.specs.Undoing.{UndoLent, UndoesMesh};

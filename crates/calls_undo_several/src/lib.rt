@@ -1,5 +1,7 @@
 // What undo several does once its sizes are judged: all but the clearing of its work buffers. It takes time linear in
 // vertices and triangles at each level, and assumes nothing.
+#![tactic(auto)]
+
 ghost use Rattle.answers.specs.Answers.{several_answer_of};
 ghost use Rattle.undo_role.specs.Buffers.{buffers};
 ghost use Rattle.calls_undo_several.specs.UndoingSeveral.{SeveralLent, UndoesLevels};

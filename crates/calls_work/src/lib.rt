@@ -1,4 +1,6 @@
 // The work buffers that calls are lent: the shortest of them, and their clearing. Assumes nothing.
+#![tactic(auto)]
+
 ghost use Rattle.std.specs.Prelude.{◌≡◌, [], ◌∷◌, map};
 ghost use Rattle.theory.specs.Calls.{zeros};
 ghost use Rattle.theory.proofs.Refusals.{least};

@@ -7,7 +7,7 @@ use super::bytes::{ends_comment, ends_run, is_digit, is_separator};
 use limits::limits::Limits;
 
 // What a run says, and where it ends.
-#[derive(Drop)]
+#[derive(Clone, Copy)]
 pub enum Run {
     Corner { value: u16, end: usize },
     Close { end: usize },

@@ -1,6 +1,8 @@
 // Small loops over slices of 16-bit entries: an entry as an index, the lesser of two numbers, fill and copy, three
 // entries at a time, ranks of marked indices, and values at their keys. It knows nothing of meshes, takes time linear in
 // the numbers that it is given, and assumes nothing.
+#![tactic(auto)]
+
 ghost use Rattle.std.specs.Prelude.{◌≡◌, ◌+◌, ◌*◌, ◌<◌, ◌≤◌, min, [], ◌∷◌, ◌++◌, length, take, drop, replicate};
 ghost use Rattle.std.proofs.lemmas.List.Edits.{sets};
 ghost use Rattle.theory.specs.Mesh.{at};

@@ -1,6 +1,8 @@
 // How many edges a mesh has, and how many of them are boundary edges, by the rings of its edges. Each count goes once
 // over the half-edges, in 16 bits, as wide as the links, so that a processor compares several at a time. Assumes
 // nothing.
+#![tactic(auto)]
+
 ghost use Rattle.std.specs.Prelude.{◌≡◌, leb, eqb};
 ghost use Rattle.theory.specs.Counting.{bit};
 ghost use Rattle.theory.specs.Splitting.{edges, boundary_edges};

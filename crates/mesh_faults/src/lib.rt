@@ -1,6 +1,8 @@
 // The faults of a mesh that refusals 6 to 9 report: for each the least place, or the number of places where there is
 // none. Every table lives in a slice that the caller lends. It rests on the loops of `lists` and the tables of
 // `mesh_rings`, takes time linear in vertices and triangles, whatever the mesh, and assumes nothing.
+#![tactic(auto)]
+
 ghost use Rattle.std.specs.Prelude.{◌*◌};
 ghost use Rattle.theory.specs.Refusals.{CornerNotBelow, EqualCorners, SameAsEarlier, InNoTriangle};
 ghost use Rattle.lists.specs.Places.{Place};

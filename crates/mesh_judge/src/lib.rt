@@ -1,6 +1,8 @@
 // The judgement of a mesh: the first of refusals 6 to 10 that is given, at its least place, with the rings of the
 // edges where none is. It rests on `limits`, which says what a judgement is, and on `mesh_faults` and `mesh_reach`,
 // which search for each fault. It takes time linear in vertices and triangles, whatever the mesh, and assumes nothing.
+#![tactic(auto)]
+
 ghost use Rattle.limits.specs.Judged.{Judged};
 ghost use Rattle.mesh_faults.specs.Faults.{Whole};
 ghost use Rattle.mesh_judge.specs.Judging.{corner_rules, connected_rules, JudgeLent, TrianglesLent};

@@ -1,5 +1,7 @@
 // The other half-edge on an edge of two, by the rings of the edges: the table of mates that an undo goes by. It takes
 // time linear in the half-edges, and assumes nothing.
+#![tactic(auto)]
+
 ghost use Rattle.std.specs.Prelude.{◌<◌, length};
 ghost use Rattle.lists.specs.Decides.{Decides};
 ghost use Rattle.mesh_mates.specs.Others.{OthersLent, OthersOf, HasMate};

@@ -1,6 +1,8 @@
 // Reach over shared edges from a triangle: a queue of reached triangles, and each edge with three and more half-edges
 // is opened once, however many triangles have it. It knows a mesh by the rings of its edges alone. Every table lives
 // in a slice that the caller lends. It takes time linear in the triangles, whatever the mesh, and assumes nothing.
+#![tactic(auto)]
+
 ghost use Rattle.theory.specs.Mesh.{at};
 ghost use Rattle.mesh_reach.specs.Reached.{ReachLent, Reached};
 ghost use Rattle.mesh_reach.specs.Searching.{SpreadLent, CrossLent, Crossed, PushLent, Pushed};

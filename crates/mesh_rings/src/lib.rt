@@ -2,5 +2,7 @@
 // leads from each half-edge on it to the next one, and from the last to the first. Every table lives in a slice that
 // the caller lends. It rests on the loops of `lists`, takes time linear in vertices and triangles, whatever the mesh,
 // and assumes nothing.
+#![tactic(auto)]
+
 pub mod ends;
 pub mod ring;

@@ -1,5 +1,7 @@
 // The program's answer: from the bytes of its input to the bytes of its text, in memory of fixed size. It goes a few
 // times over the input and the mesh, and assumes nothing.
+#![tactic(auto)]
+
 pub mod print;
 pub mod sizes;
 pub mod undoing;

@@ -1,5 +1,7 @@
 // The splitting of a mesh: the numbers of the edge vertices in order of first appearance, and the four triangles that
 // each triangle becomes. Both go once over the half-edges. Assumes nothing.
+#![tactic(auto)]
+
 ghost use Rattle.std.specs.Prelude.{◌≡◌, ℕ, ◌+◌, ◌*◌};
 ghost use Rattle.std.proofs.lemmas.List.Edits.{sets};
 ghost use Rattle.theory.specs.Splitting.{edge_no, split};

@@ -1,5 +1,7 @@
 // The comparison of every input triangle, under the maps, with its triangle of the splitting: up to rotation of corners,
 // and by its vertices. It takes time linear in the triangles, and assumes nothing.
+#![tactic(auto)]
+
 ghost use Rattle.std.specs.Prelude.{◌≡◌};
 ghost use Rattle.theory.specs.Reading.{renamed};
 ghost use Rattle.lists.specs.Decides.{Decides};

@@ -1,6 +1,8 @@
 // The covering mesh of an undo: tiles and their rows, with the rings of their edges, and the start tile of a role.
 // Every table lives in a slice that the caller lends. It takes time linear in vertices and triangles, and assumes
 // nothing.
+#![tactic(auto)]
+
 pub mod cover;
 pub mod start;
 pub mod tiles;

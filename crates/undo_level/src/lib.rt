@@ -1,5 +1,7 @@
 // One level of undo several: the least role that has a reading, and the rings of the coarser mesh for the next level.
 // It takes time linear in vertices and triangles, and assumes nothing.
+#![tactic(auto)]
+
 ghost use Rattle.undo_role.specs.Buffers.{buffers};
 ghost use Rattle.undo_level.specs.Level.{LevelLent, LevelTried};
 

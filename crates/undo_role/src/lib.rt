@@ -1,6 +1,8 @@
 // One role of an undo: what is reached from its start tile over the edges of the covering mesh is numbered, mapped and
 // compared, and it is here that tables become readings. Every table lives in a slice that the caller lends. It takes
 // time linear in vertices and triangles, and assumes nothing.
+#![tactic(auto)]
+
 ghost use Rattle.undo_role.specs.Buffers.{buffers};
 ghost use Rattle.undo_role.specs.Tried.{RoleLent, TriedRole};
 

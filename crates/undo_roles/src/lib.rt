@@ -1,5 +1,7 @@
 // The least role that has a reading, and the role that is asked for. It takes time linear in vertices and triangles,
 // and assumes nothing.
+#![tactic(auto)]
+
 ghost use Rattle.undo_role.specs.Buffers.{buffers};
 ghost use Rattle.undo_role.specs.Tried.{RolesLent};
 ghost use Rattle.undo_roles.specs.Least.{LeastTried};

@@ -2,6 +2,8 @@
 // mesh that they make, the maps, and the comparison. Each calls the crates below on the tables that the stages before
 // it made; `undo_role` calls the stages. Every table lives in a slice that the caller lends. It takes time linear in
 // vertices and triangles, and assumes nothing.
+#![tactic(auto)]
+
 ghost use Rattle.undo_cover.specs.Starts.{start_of};
 ghost use Rattle.undo_stages.specs.Role.{FindLent, TilesFound, NumberTilesLent, CoarseNumbered};
 ghost use Rattle.undo_stages.specs.Maps.{VerticesLent, VerticesMapped, TrianglesLent, TrianglesMapped};

@@ -2,6 +2,8 @@
 // reading, and writes the answer to standard output as text. All that it decides of a mesh is in the crate `program`.
 // Where standard input cannot be read it answers nothing; that, and an answer that cannot be written, it says on
 // standard error, since a program here has no exit status of its own to give.
+#![tactic(auto)]
+
 mod input;
 
 use input::{Input, read_input};

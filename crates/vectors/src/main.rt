@@ -2,6 +2,8 @@
 // after them (reference/README.md, "Vectors"): 1 and 2 make the present mesh, and 7 says how buffers are lent to the
 // calls; 3 splits; 4, 5 and 6 undo; 8 and 9 read and write frames, 10 and 11 index texts. Each call is answered by a
 // line of numbers and by what it wrote. Where the text is not so, the last line is `wrong`.
+#![tactic(auto)]
+
 mod buffers;
 mod numbers;
 mod present;

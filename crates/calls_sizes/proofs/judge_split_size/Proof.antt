@@ -9,35 +9,39 @@ use Rattle.calls_sizes.proofs.judge_split_size.Statement.{statement}
 use Rattle.calls_sizes.proofs.judge_split_size.Tie as tie
 
 -- past the test, 2 to 4 are passed
-passed : (c : tie.Else1)
-    → let a = c.before.before.args in
+passed : (c : tie.Else-number-ne0)
+    → let a = c.args in
     Passed (size_rules most_split_triangles a.vertices a.entries)
-passed c = judged-passed c.before.judge-size-to-split.ensures c.if1.false (omega arith)
+passed c = judged-passed c.judge_size_to_split-number.ensures c.if-number-ne0.false (omega arith)
 
 -- so the sizes are right
-sizes : (c : tie.Else1)
-    → let a = c.before.before.args in
+sizes : (c : tie.Else-number-ne0)
+    → let a = c.args in
     Sized most_split_triangles a.vertices a.entries
 sizes c = sized _ _ _ (passed c)
 
-judge-size-to-split-requires : tie.Need-judge-size-to-split-requires
-judge-size-to-split-requires c κs = search rules
+judge_size_to_split-number-requires : tie.Need-judge_size_to_split-number-requires
+judge_size_to_split-number-requires c κs = search rules
 
-returns : tie.Need-returns
-returns c = judged-front _ c.before.judge-size-to-split.ensures c.if1.true
+returns-then-number-ne0 : tie.Need-returns-then-number-ne0
+returns-then-number-ne0 c = judged-front _ c.judge_size_to_split-number.ensures c.if-number-ne0.true
 
-mul-judge-room : tie.Need-overflow-mul-judge-room
-mul-judge-room c = omega (arith, sizes c)
+overflow_mul-triangles : tie.Need-overflow_mul-triangles
+overflow_mul-triangles c = omega (arith, sizes c)
 
-judge-room-requires : tie.Need-judge-room-requires
-judge-room-requires c κs =
-    let s = sizes c in
+judge_room-requires : tie.Need-judge_room-requires
+judge_room-requires c κs = let s = sizes c in
     (s.low, omega (arith, s))
 
-returns-2 : tie.Need-returns-2
-returns-2 c = judged-back _ (passed c.before) c.judge-room.ensures
+returns : tie.Need-returns
+returns c = judged-back _ (passed c.before) c.judge_room.ensures
 
-pub judge-split-size-spec : {M : Type 1} → statement M
-judge-split-size-spec =
+pub judge_split_size_spec : {M : Type 1} → statement M
+judge_split_size_spec =
     tie.close
-    (tie.spec judge-size-to-split-requires returns mul-judge-room judge-room-requires returns-2)
+    (tie.spec
+    judge_size_to_split-number-requires
+    returns-then-number-ne0
+    overflow_mul-triangles
+    judge_room-requires
+    returns)

@@ -5,68 +5,62 @@ use Rattle.calls_work.proofs.clear_nine.Statement.{statement}
 use Rattle.calls_work.proofs.clear_nine.Tie as tie
 
 -- ---- from each call to the one before
+abbrev after-five : tie.After-slice_known-18-1 → tie.After-clear_five
+after-five c = c.before.before.before.before.before.before.before.before.before.before
 
-abbrev after-five : tie.After-slice-known18 → tie.After-clear-five
-after-five c =
-    c.before.before.before.before.before.before.before.before.before.before
-
-abbrev after-four : tie.After-clear-five → tie.After-clear-four
-after-four c =
-    c.before.before.before.before.before.before.before.before.before.before.before.before.before.before
+abbrev after-four : tie.After-clear_five → tie.After-clear_four
+after-four c = c.before.before.before.before.before.before.before.before.before.before.before.before.before.before
 
 -- ---- the answers
+clear_four-requires : tie.Need-clear_four-requires
+clear_four-requires c κs = tt
 
-clear-four-requires : tie.Need-clear-four-requires
-clear-four-requires c κs = tt
+clear_five-requires : tie.Need-clear_five-requires
+clear_five-requires c κs = tt
 
-clear-five-requires : tie.Need-clear-five-requires
-clear-five-requires c κs = tt
+shape_of-a : tie.Need-shape_of-a
+shape_of-a c = (after-four (after-five c)).clear_four.auto.a
 
-same_length : tie.Need-same-length
-same_length c = (after-four (after-five c)).clear-four.auto.0
+shape_of-b : tie.Need-shape_of-b
+shape_of-b c = (after-four (after-five c)).clear_four.auto.b
 
-same-length-2 : tie.Need-same-length-2
-same-length-2 c = (after-four (after-five c)).clear-four.auto.1.0
+shape_of-c : tie.Need-shape_of-c
+shape_of-c c = (after-four (after-five c)).clear_four.auto.c
 
-same-length-3 : tie.Need-same-length-3
-same-length-3 c = (after-four (after-five c)).clear-four.auto.1.1.0
+shape_of-d : tie.Need-shape_of-d
+shape_of-d c = (after-four (after-five c)).clear_four.auto.d
 
-same-length-4 : tie.Need-same-length-4
-same-length-4 c = (after-four (after-five c)).clear-four.auto.1.1.1.0
+shape_of-e : tie.Need-shape_of-e
+shape_of-e c = (after-five c).clear_five.auto.a
 
-same-length-5 : tie.Need-same-length-5
-same-length-5 c = (after-five c).clear-five.auto.0
+shape_of-f : tie.Need-shape_of-f
+shape_of-f c = (after-five c).clear_five.auto.b
 
-same-length-6 : tie.Need-same-length-6
-same-length-6 c = (after-five c).clear-five.auto.1.0
+shape_of-g : tie.Need-shape_of-g
+shape_of-g c = (after-five c).clear_five.auto.c
 
-same-length-7 : tie.Need-same-length-7
-same-length-7 c = (after-five c).clear-five.auto.1.1.0
+shape_of-h : tie.Need-shape_of-h
+shape_of-h c = (after-five c).clear_five.auto.d
 
-same-length-8 : tie.Need-same-length-8
-same-length-8 c = (after-five c).clear-five.auto.1.1.1.0
-
-same-length-9 : tie.Need-same-length-9
-same-length-9 c = (after-five c).clear-five.auto.1.1.1.1.0
+shape_of-i : tie.Need-shape_of-i
+shape_of-i c = (after-five c).clear_five.auto.e
 
 returns : tie.Need-returns
-returns c =
-    let five = after-five c in
-    both_equal (after-four five).clear-four.ensures five.clear-five.ensures
+returns c = both_equal (after-four (after-five c)).clear_four.ensures c.clear_five.ensures
 
-pub clear-nine-spec : {M : Type 1} → statement M
-clear-nine-spec =
+pub clear_nine_spec : {M : Type 1} → statement M
+clear_nine_spec =
     tie.close
     (tie.spec
-    clear-four-requires
-    clear-five-requires
-    same_length
-    same-length-2
-    same-length-3
-    same-length-4
-    same-length-5
-    same-length-6
-    same-length-7
-    same-length-8
-    same-length-9
+    clear_four-requires
+    clear_five-requires
+    shape_of-a
+    shape_of-b
+    shape_of-c
+    shape_of-d
+    shape_of-e
+    shape_of-f
+    shape_of-g
+    shape_of-h
+    shape_of-i
     returns)

@@ -6,72 +6,66 @@ use Rattle.calls_work.proofs.clear_ten.Statement.{statement}
 use Rattle.calls_work.proofs.clear_ten.Tie as tie
 
 -- ---- from each call to the one before
+abbrev after-nine : tie.After-slice_known-20-1 → tie.After-clear_nine
+after-nine c = c.before.before.before.before.before.before.before.before.before.before.before.before.before.before.before.before.before.before
 
-abbrev after-nine : tie.After-slice-known20 → tie.After-clear-nine
-after-nine c =
-    c.before.before.before.before.before.before.before.before.before.before.before.before.before.before.before.before.before.before
-
-abbrev after_one : tie.After-clear-nine → tie.After-clear
-after_one c =
-    c.before.before.before.before.before.before.before.before.before.before.before.before
+abbrev after_one : tie.After-clear_nine → tie.After-clear
+after_one c = c.before.before.before.before.before.before.before.before.before.before.before.before
 
 -- ---- the answers
-
 clear-requires : tie.Need-clear-requires
 clear-requires c κs = tt
 
-clear-nine-requires : tie.Need-clear-nine-requires
-clear-nine-requires c κs = tt
+clear_nine-requires : tie.Need-clear_nine-requires
+clear_nine-requires c κs = tt
 
-same_length : tie.Need-same-length
-same_length c = (after_one (after-nine c)).clear.auto.0
+shape_of-a : tie.Need-shape_of-a
+shape_of-a c = (after_one (after-nine c)).clear.auto.s
 
-same-length-2 : tie.Need-same-length-2
-same-length-2 c = (after-nine c).clear-nine.auto.0
+shape_of-b : tie.Need-shape_of-b
+shape_of-b c = (after-nine c).clear_nine.auto.a
 
-same-length-3 : tie.Need-same-length-3
-same-length-3 c = (after-nine c).clear-nine.auto.1.0
+shape_of-c : tie.Need-shape_of-c
+shape_of-c c = (after-nine c).clear_nine.auto.b
 
-same-length-4 : tie.Need-same-length-4
-same-length-4 c = (after-nine c).clear-nine.auto.1.1.0
+shape_of-d : tie.Need-shape_of-d
+shape_of-d c = (after-nine c).clear_nine.auto.c
 
-same-length-5 : tie.Need-same-length-5
-same-length-5 c = (after-nine c).clear-nine.auto.1.1.1.0
+shape_of-e : tie.Need-shape_of-e
+shape_of-e c = (after-nine c).clear_nine.auto.d
 
-same-length-6 : tie.Need-same-length-6
-same-length-6 c = (after-nine c).clear-nine.auto.1.1.1.1.0
+shape_of-f : tie.Need-shape_of-f
+shape_of-f c = (after-nine c).clear_nine.auto.e
 
-same-length-7 : tie.Need-same-length-7
-same-length-7 c = (after-nine c).clear-nine.auto.1.1.1.1.1.0
+shape_of-g : tie.Need-shape_of-g
+shape_of-g c = (after-nine c).clear_nine.auto.f
 
-same-length-8 : tie.Need-same-length-8
-same-length-8 c = (after-nine c).clear-nine.auto.1.1.1.1.1.1.0
+shape_of-h : tie.Need-shape_of-h
+shape_of-h c = (after-nine c).clear_nine.auto.g
 
-same-length-9 : tie.Need-same-length-9
-same-length-9 c = (after-nine c).clear-nine.auto.1.1.1.1.1.1.1.0
+shape_of-i : tie.Need-shape_of-i
+shape_of-i c = (after-nine c).clear_nine.auto.h
 
-same-length-10 : tie.Need-same-length-10
-same-length-10 c = (after-nine c).clear-nine.auto.1.1.1.1.1.1.1.1.0
+shape_of-j : tie.Need-shape_of-j
+shape_of-j c = (after-nine c).clear_nine.auto.i
 
 returns : tie.Need-returns
-returns c =
-    let nine = after-nine c in
-    both_equal (ap (λ buffer. buffer ∷ []) (after_one nine).clear.ensures) nine.clear-nine.ensures
+returns c = both_equal (ap (λ buffer. buffer ∷ []) (after_one (after-nine c)).clear.ensures) c.clear_nine.ensures
 
-pub clear-ten-spec : {M : Type 1} → statement M
-clear-ten-spec =
+pub clear_ten_spec : {M : Type 1} → statement M
+clear_ten_spec =
     tie.close
     (tie.spec
     clear-requires
-    clear-nine-requires
-    same_length
-    same-length-2
-    same-length-3
-    same-length-4
-    same-length-5
-    same-length-6
-    same-length-7
-    same-length-8
-    same-length-9
-    same-length-10
+    clear_nine-requires
+    shape_of-a
+    shape_of-b
+    shape_of-c
+    shape_of-d
+    shape_of-e
+    shape_of-f
+    shape_of-g
+    shape_of-h
+    shape_of-i
+    shape_of-j
     returns)

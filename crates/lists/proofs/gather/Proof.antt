@@ -20,66 +20,64 @@ turned : {table keys out₀ out : List ℕ} {n p key : ℕ} → Turn table keys 
     → Turn table keys n out₀ (set out p (at table key)) (p + 1)
 turned {table} S l e = record { lent = S.lent; entries = tabulating-more S.entries l (ap (at table) e) }
 
-abbrev invariant-loop : tie.invariant-loop
-invariant-loop table keys n out₀ p₀ out p = Turn table keys n out₀ out p
+abbrev invariant-loop-p : tie.invariant-loop-p
+invariant-loop-p table keys n out₀ p₀ out p = Turn table keys n out₀ out p
 
-abbrev decreases-loop : tie.decreases-loop
-decreases-loop table keys n out₀ p₀ out p = n - p
+abbrev decreases-loop-p : tie.decreases-loop-p
+decreases-loop-p table keys n out₀ p₀ out p = n - p
 
-loop-holds : tie.Need-loop-init invariant-loop decreases-loop
-loop-holds c =
-    record { lent = c.before.before.before.requires; entries = tabulating-none c.before.before.before.requires.valued }
+loop-p-init : tie.Need-loop-p-init invariant-loop-p decreases-loop-p
+loop-p-init c = record { lent = c.requires; entries = tabulating-none c.requires.valued }
 
-at-requires : tie.Need-at-requires invariant-loop decreases-loop
+at-requires : tie.Need-at-requires invariant-loop-p decreases-loop-p
 at-requires c κs = omega arith
 
 -- the key is inside the table
-has_room : (c : tie.After-at invariant-loop decreases-loop)
-    → c.at.result < length c.before.before.before.before.before.before.args.table.now
-has_room c = omega (arith, c.before.before.loop.invariant.lent.inside _ c.before.loop-test.true)
+has_room : (c : tie.After-at invariant-loop-p decreases-loop-p)
+    → c.at.result < length c.args.table.now
+has_room c = omega (arith, c.loop-p.invariant.lent.inside _ c.loop-p-test.true)
 
-mul-out : tie.Need-overflow-mul-out invariant-loop decreases-loop
-mul-out c = omega (arith, has_room c)
+offset_bounds-table-at : tie.Need-offset_bounds-table-at invariant-loop-p decreases-loop-p
+offset_bounds-table-at c = omega (arith, has_room c)
 
-shared-slice-read-out : tie.Need-shared-slice-read-out invariant-loop decreases-loop
-shared-slice-read-out c = omega (arith, has_room c.before)
+bounds-table-at : tie.Need-bounds-table-at invariant-loop-p decreases-loop-p
+bounds-table-at c = omega (arith, has_room c.before)
 
-mul-out-2 : tie.Need-overflow-mul-out-2 invariant-loop decreases-loop
-mul-out-2 c = omega arith
+offset_bounds-out-p : tie.Need-offset_bounds-out-p invariant-loop-p decreases-loop-p
+offset_bounds-out-p c = omega arith
 
-slice-write-out : tie.Need-slice-write-out invariant-loop decreases-loop
-slice-write-out c = omega arith
+bounds-out-p : tie.Need-bounds-out-p invariant-loop-p decreases-loop-p
+bounds-out-p c = omega arith
 
-add-p : tie.Need-overflow-add-p invariant-loop decreases-loop
-add-p c = omega arith
+overflow_add-p : tie.Need-overflow_add-p invariant-loop-p decreases-loop-p
+overflow_add-p c = omega arith
 
-loop-less : tie.Need-loop-smaller invariant-loop decreases-loop
-loop-less c = omega arith
+loop-p-smaller : tie.Need-loop-p-smaller invariant-loop-p decreases-loop-p
+loop-p-smaller c = omega arith
 
-loop-again : tie.Need-loop-preserved invariant-loop decreases-loop
-loop-again c =
-    turned c.before.before.before.loop.invariant c.before.before.loop-test.true c.before.at.ensures
+loop-p-preserved : tie.Need-loop-p-preserved invariant-loop-p decreases-loop-p
+loop-p-preserved c = turned c.loop-p.invariant c.loop-p-test.true c.at.ensures
 
-same_length : tie.Need-same-length invariant-loop decreases-loop
-same_length c = omega arith
+shape_of-out : tie.Need-shape_of-out invariant-loop-p decreases-loop-p
+shape_of-out c = omega arith
 
-returns : tie.Need-returns invariant-loop decreases-loop
-returns c = tabulating-all c.before.loop.invariant.entries c.loop-test.false
+returns : tie.Need-returns invariant-loop-p decreases-loop-p
+returns c = tabulating-all c.loop-p.invariant.entries c.loop-p-test.false
 
-pub gather-spec : {M : Type 1} → statement M
-gather-spec =
+pub gather_spec : {M : Type 1} → statement M
+gather_spec =
     tie.close
     (tie.spec
-    invariant-loop
-    decreases-loop
-    loop-holds
+    invariant-loop-p
+    decreases-loop-p
+    loop-p-init
     at-requires
-    mul-out
-    shared-slice-read-out
-    mul-out-2
-    slice-write-out
-    add-p
-    loop-less
-    loop-again
-    same_length
+    offset_bounds-table-at
+    bounds-table-at
+    offset_bounds-out-p
+    bounds-out-p
+    overflow_add-p
+    loop-p-smaller
+    loop-p-preserved
+    shape_of-out
     returns)

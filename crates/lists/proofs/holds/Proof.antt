@@ -9,71 +9,69 @@ use Rattle.lists.proofs.Keys.{Holding, holding-none, holding-more, holding-all, 
 use Rattle.lists.proofs.holds.Statement.{statement}
 use Rattle.lists.proofs.holds.Tie as tie
 
-abbrev invariant-loop : tie.invariant-loop
-invariant-loop keys values n table p₀ p = KeysLent n keys table values × Holding (at values) n keys table p
+abbrev invariant-loop-p : tie.invariant-loop-p
+invariant-loop-p keys values n table p₀ p = KeysLent n keys table values × Holding (at values) n keys table p
 
-abbrev decreases-loop : tie.decreases-loop
-decreases-loop keys values n table p₀ p = n - p
+abbrev decreases-loop-p : tie.decreases-loop-p
+decreases-loop-p keys values n table p₀ p = n - p
 
-loop-holds : tie.Need-loop-init invariant-loop decreases-loop
-loop-holds c = (c.before.before.before.requires, holding-none)
+loop-p-init : tie.Need-loop-p-init invariant-loop-p decreases-loop-p
+loop-p-init c = (c.requires, holding-none)
 
-at-requires : tie.Need-at-requires invariant-loop decreases-loop
+at-requires : tie.Need-at-requires invariant-loop-p decreases-loop-p
 at-requires c κs = omega arith
 
 -- the key is inside the table
-has_room : (c : tie.After-at invariant-loop decreases-loop)
-    → c.at.result < length c.before.before.before.before.before.before.args.table.now
-has_room c = omega (arith, c.before.before.loop.invariant.0.inside _ c.before.loop-test.true)
+has_room : (c : tie.After-at invariant-loop-p decreases-loop-p)
+    → c.at.result < length c.args.table.now
+has_room c = omega (arith, c.loop-p.invariant.0.inside _ c.loop-p-test.true)
 
-mul-if1 : tie.Need-overflow-mul-if1 invariant-loop decreases-loop
-mul-if1 c = omega (arith, has_room c)
+offset_bounds-table-at : tie.Need-offset_bounds-table-at invariant-loop-p decreases-loop-p
+offset_bounds-table-at c = omega (arith, has_room c)
 
-shared-slice-read-if1 : tie.Need-shared-slice-read-if1 invariant-loop decreases-loop
-shared-slice-read-if1 c = omega (arith, has_room c.before)
+bounds-table-at : tie.Need-bounds-table-at invariant-loop-p decreases-loop-p
+bounds-table-at c = omega (arith, has_room c.before)
 
-mul-if1-2 : tie.Need-overflow-mul-if1-2 invariant-loop decreases-loop
-mul-if1-2 c = omega arith
+offset_bounds-values-p : tie.Need-offset_bounds-values-p invariant-loop-p decreases-loop-p
+offset_bounds-values-p c = omega arith
 
-shared-slice-read-if1-2 : tie.Need-shared-slice-read-if1-2 invariant-loop decreases-loop
-shared-slice-read-if1-2 c = omega arith
+bounds-values-p : tie.Need-bounds-values-p invariant-loop-p decreases-loop-p
+bounds-values-p c = omega arith
 
-returns : tie.Need-returns invariant-loop decreases-loop
-returns c =
-    holding-not c.before.before.before.before.loop-test.true c.before.before.before.at.ensures
-    c.if1.true
+returns-then-table-at : tie.Need-returns-then-table-at invariant-loop-p decreases-loop-p
+returns-then-table-at c = holding-not c.loop-p-test.true c.at.ensures
+    c.if-table-at.true
 
-add-p : tie.Need-overflow-add-p invariant-loop decreases-loop
-add-p c = omega arith
+overflow_add-p : tie.Need-overflow_add-p invariant-loop-p decreases-loop-p
+overflow_add-p c = omega arith
 
-loop-less : tie.Need-loop-smaller invariant-loop decreases-loop
-loop-less c = omega arith
+loop-p-smaller : tie.Need-loop-p-smaller invariant-loop-p decreases-loop-p
+loop-p-smaller c = omega arith
 
-loop-again : tie.Need-loop-preserved invariant-loop decreases-loop
-loop-again c =
-    let turn = c.before.before.before.before.before.loop.invariant in (
+loop-p-preserved : tie.Need-loop-p-preserved invariant-loop-p decreases-loop-p
+loop-p-preserved c = let turn = c.loop-p.invariant in (
       turn.0,
-      holding-more turn.1 c.before.before.before.before.loop-test.true
-          c.before.before.before.at.ensures c.if1.false,
+      holding-more turn.1 c.loop-p-test.true
+          c.at.ensures c.if-table-at.false,
     )
 
-returns-2 : tie.Need-returns-2 invariant-loop decreases-loop
-returns-2 c = holding-all c.before.loop.invariant.1 c.loop-test.false
+returns : tie.Need-returns invariant-loop-p decreases-loop-p
+returns c = holding-all c.loop-p.invariant.1 c.loop-p-test.false
 
-pub holds-spec : {M : Type 1} → statement M
-holds-spec =
+pub holds_spec : {M : Type 1} → statement M
+holds_spec =
     tie.close
     (tie.spec
-    invariant-loop
-    decreases-loop
-    loop-holds
+    invariant-loop-p
+    decreases-loop-p
+    loop-p-init
     at-requires
-    mul-if1
-    shared-slice-read-if1
-    mul-if1-2
-    shared-slice-read-if1-2
-    returns
-    add-p
-    loop-less
-    loop-again
-    returns-2)
+    offset_bounds-table-at
+    bounds-table-at
+    offset_bounds-values-p
+    bounds-values-p
+    returns-then-table-at
+    overflow_add-p
+    loop-p-smaller
+    loop-p-preserved
+    returns)

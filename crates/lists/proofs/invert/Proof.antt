@@ -8,61 +8,60 @@ use Rattle.lists.proofs.Keys.{Scattering, scattering-none, scattering-more, scat
 use Rattle.lists.proofs.invert.Statement.{statement}
 use Rattle.lists.proofs.invert.Tie as tie
 
-abbrev invariant-loop : tie.invariant-loop
-invariant-loop keys n table₀ p₀ table p = InvertLent n keys table₀ × Scattering (λ q. q) n keys table₀ table p
+abbrev invariant-loop-p : tie.invariant-loop-p
+invariant-loop-p keys n table₀ p₀ table p = InvertLent n keys table₀ × Scattering (λ q. q) n keys table₀ table p
 
-abbrev decreases-loop : tie.decreases-loop
-decreases-loop keys n table₀ p₀ table p = n - p
+abbrev decreases-loop-p : tie.decreases-loop-p
+decreases-loop-p keys n table₀ p₀ table p = n - p
 
-loop-holds : tie.Need-loop-init invariant-loop decreases-loop
-loop-holds c = (c.before.before.requires, scattering-none)
+loop-p-init : tie.Need-loop-p-init invariant-loop-p decreases-loop-p
+loop-p-init c = (c.requires, scattering-none)
 
-cast-table : tie.Need-overflow-cast-table invariant-loop decreases-loop
-cast-table c = omega arith
+overflow_cast-table : tie.Need-overflow_cast-table invariant-loop-p decreases-loop-p
+overflow_cast-table c = omega arith
 
-at-requires : tie.Need-at-requires invariant-loop decreases-loop
+at-requires : tie.Need-at-requires invariant-loop-p decreases-loop-p
 at-requires c κs = omega arith
 
 -- the key is inside the table
-has_room : (c : tie.After-at invariant-loop decreases-loop) → c.at.result < length c.before.before.loop.table
-has_room c = omega (arith, c.before.before.loop.invariant.0.inside _ c.before.loop-test.true)
+has_room : (c : tie.After-at invariant-loop-p decreases-loop-p) → c.at.result < length c.loop-p.table
+has_room c = omega (arith, c.loop-p.invariant.0.inside _ c.loop-p-test.true)
 
-mul-table : tie.Need-overflow-mul-table invariant-loop decreases-loop
-mul-table c = omega (arith, has_room c)
+offset_bounds-table-at : tie.Need-offset_bounds-table-at invariant-loop-p decreases-loop-p
+offset_bounds-table-at c = omega (arith, has_room c)
 
-slice-write-table : tie.Need-slice-write-table invariant-loop decreases-loop
-slice-write-table c = omega (arith, has_room c)
+bounds-table-at : tie.Need-bounds-table-at invariant-loop-p decreases-loop-p
+bounds-table-at c = omega (arith, has_room c)
 
-add-p : tie.Need-overflow-add-p invariant-loop decreases-loop
-add-p c = omega arith
+overflow_add-p : tie.Need-overflow_add-p invariant-loop-p decreases-loop-p
+overflow_add-p c = omega arith
 
-loop-less : tie.Need-loop-smaller invariant-loop decreases-loop
-loop-less c = omega arith
+loop-p-smaller : tie.Need-loop-p-smaller invariant-loop-p decreases-loop-p
+loop-p-smaller c = omega arith
 
-loop-again : tie.Need-loop-preserved invariant-loop decreases-loop
-loop-again c =
-    let turn = c.before.before.loop.invariant in
-    (turn.0, scattering-more turn.1 c.before.loop-test.true c.at.ensures (has_room c))
+loop-p-preserved : tie.Need-loop-p-preserved invariant-loop-p decreases-loop-p
+loop-p-preserved c = let turn = c.loop-p.invariant in
+    (turn.0, scattering-more turn.1 c.loop-p-test.true c.at.ensures (has_room c))
 
-same_length : tie.Need-same-length invariant-loop decreases-loop
-same_length c = omega arith
+shape_of-table : tie.Need-shape_of-table invariant-loop-p decreases-loop-p
+shape_of-table c = omega arith
 
-returns : tie.Need-returns invariant-loop decreases-loop
-returns c = scattering-all c.before.loop.invariant.1 c.loop-test.false
+returns : tie.Need-returns invariant-loop-p decreases-loop-p
+returns c = scattering-all c.loop-p.invariant.1 c.loop-p-test.false
 
-pub invert-spec : {M : Type 1} → statement M
-invert-spec =
+pub invert_spec : {M : Type 1} → statement M
+invert_spec =
     tie.close
     (tie.spec
-    invariant-loop
-    decreases-loop
-    loop-holds
-    cast-table
+    invariant-loop-p
+    decreases-loop-p
+    loop-p-init
+    overflow_cast-table
     at-requires
-    mul-table
-    slice-write-table
-    add-p
-    loop-less
-    loop-again
-    same_length
+    offset_bounds-table-at
+    bounds-table-at
+    overflow_add-p
+    loop-p-smaller
+    loop-p-preserved
+    shape_of-table
     returns)

@@ -60,59 +60,59 @@ module _ {T : List ℕ} {N F : ℕ} {marks₀ marks : List ℕ} {c : ℕ} (S : T
       let e : c ≡ 3 * F = omega arith in
       rw e at S.marked
 
-abbrev invariant-loop : tie.invariant-loop
-invariant-loop list vertices triangles marks₀ c₀ marks c = Turn list vertices triangles marks₀ marks c
+abbrev invariant-loop-c : tie.invariant-loop-c
+invariant-loop-c list vertices triangles marks₀ c₀ marks c = Turn list vertices triangles marks₀ marks c
 
-abbrev decreases-loop : tie.decreases-loop
-decreases-loop list vertices triangles marks₀ c₀ marks c = 3 * triangles - c
+abbrev decreases-loop-c : tie.decreases-loop-c
+decreases-loop-c list vertices triangles marks₀ c₀ marks c = 3 * triangles - c
 
-loop-holds : tie.Need-loop-init invariant-loop decreases-loop
-loop-holds c = begun c.before.before.requires
+loop-c-init : tie.Need-loop-c-init invariant-loop-c decreases-loop-c
+loop-c-init c = begun c.requires
 
-mul-loop : tie.Need-overflow-mul-loop invariant-loop decreases-loop
-mul-loop c = omega arith
+overflow_mul-triangles : tie.Need-overflow_mul-triangles invariant-loop-c decreases-loop-c
+overflow_mul-triangles c = omega arith
 
-at-requires : tie.Need-at-requires invariant-loop decreases-loop
+at-requires : tie.Need-at-requires invariant-loop-c decreases-loop-c
 at-requires c κs = omega arith
 
 -- the vertex at corner c has a mark
-has_room : (c : tie.After-at invariant-loop decreases-loop) → c.at.result < length c.before.before.loop.marks
-has_room c = mark-room c.before.before.loop.invariant c.before.loop-test.true c.at.ensures
+has_room : (c : tie.After-at invariant-loop-c decreases-loop-c) → c.at.result < length c.loop-c.marks
+has_room c = mark-room c.loop-c.invariant c.loop-c-test.true c.at.ensures
 
-mul-marks : tie.Need-overflow-mul-marks invariant-loop decreases-loop
-mul-marks c = omega (arith, has_room c)
+offset_bounds-marks-at : tie.Need-offset_bounds-marks-at invariant-loop-c decreases-loop-c
+offset_bounds-marks-at c = omega (arith, has_room c)
 
-slice-write-marks : tie.Need-slice-write-marks invariant-loop decreases-loop
-slice-write-marks c = has_room c
+bounds-marks-at : tie.Need-bounds-marks-at invariant-loop-c decreases-loop-c
+bounds-marks-at c = has_room c
 
-add-c : tie.Need-overflow-add-c invariant-loop decreases-loop
-add-c c = omega arith
+overflow_add-c : tie.Need-overflow_add-c invariant-loop-c decreases-loop-c
+overflow_add-c c = omega arith
 
-loop-less : tie.Need-loop-smaller invariant-loop decreases-loop
-loop-less c = omega arith
+loop-c-smaller : tie.Need-loop-c-smaller invariant-loop-c decreases-loop-c
+loop-c-smaller c = omega arith
 
-loop-again : tie.Need-loop-preserved invariant-loop decreases-loop
-loop-again c = turned c.before.before.loop.invariant c.before.loop-test.true c.at.ensures
+loop-c-preserved : tie.Need-loop-c-preserved invariant-loop-c decreases-loop-c
+loop-c-preserved c = turned c.loop-c.invariant c.loop-c-test.true c.at.ensures
 
-same_length : tie.Need-same-length invariant-loop decreases-loop
-same_length c = omega arith
+shape_of-marks : tie.Need-shape_of-marks invariant-loop-c decreases-loop-c
+shape_of-marks c = omega arith
 
-returns : tie.Need-returns invariant-loop decreases-loop
-returns c = finished c.before.loop.invariant c.loop-test.false
+returns : tie.Need-returns invariant-loop-c decreases-loop-c
+returns c = finished c.loop-c.invariant c.loop-c-test.false
 
-pub mark-used-spec : {M : Type 1} → statement M
-mark-used-spec =
+pub mark_used_spec : {M : Type 1} → statement M
+mark_used_spec =
     tie.close
     (tie.spec
-    invariant-loop
-    decreases-loop
-    loop-holds
-    mul-loop
+    invariant-loop-c
+    decreases-loop-c
+    loop-c-init
+    overflow_mul-triangles
     at-requires
-    mul-marks
-    slice-write-marks
-    add-c
-    loop-less
-    loop-again
-    same_length
+    offset_bounds-marks-at
+    bounds-marks-at
+    overflow_add-c
+    loop-c-smaller
+    loop-c-preserved
+    shape_of-marks
     returns)

@@ -57,58 +57,52 @@ module _ {N F : ℕ} {T ring thirds₀ stamp₀ : List ℕ} (L : SameLent N F T 
       (P.found (first_on T) L.ringed)
 
 -- ---- from each call to the one before
-
-abbrev entry : tie.After-third-vertices → tie.Start
+abbrev entry : tie.After-third_vertices → tie.Start
 entry c = c.before.before.before.before.before.before
 
-abbrev made : tie.After-least-twin-arg2 → tie.After-third-vertices
-made c = c.before.before.before.before.before.before.before.before
+abbrev made : tie.After-least_twin-arg-1 → tie.After-third_vertices
+made c = c.before.before.before.before.before.before.before
 
 -- ---- the answers
+third_vertices-requires : tie.Need-third_vertices-requires
+third_vertices-requires c κs = search rules
 
-third-vertices-requires : tie.Need-third-vertices-requires
-third-vertices-requires c κs = search rules
+overflow_mul-triangles : tie.Need-overflow_mul-triangles
+overflow_mul-triangles c = search rules
 
-mul-fill : tie.Need-overflow-mul-fill
-mul-fill c = search rules
-
-cast-fill : tie.Need-overflow-cast-fill
-cast-fill c = search rules
+overflow_cast-triangles : tie.Need-overflow_cast-triangles
+overflow_cast-triangles c = search rules
 
 fill-requires : tie.Need-fill-requires
 fill-requires c κs = search rules
 
-mul-least-twin : tie.Need-overflow-mul-least-twin
-mul-least-twin c = search rules
+overflow_mul-triangles-2 : tie.Need-overflow_mul-triangles-2
+overflow_mul-triangles-2 c = search rules
 
-least-twin-requires : tie.Need-least-twin-requires
-least-twin-requires c κs =
-    let t = made c in
-    searchable (entry t).pre t.third-vertices.ensures t.third-vertices.kept.1.1.0
-    c.before.before.before.before.fill.ensures
+least_twin-requires : tie.Need-least_twin-requires
+least_twin-requires c κs = searchable (entry (made c)).requires c.third_vertices.ensures c.third_vertices.kept.1.1.0
+    c.fill.ensures
 
-same_length : tie.Need-same-length
-same_length c = search rules
+shape_of-thirds : tie.Need-shape_of-thirds
+shape_of-thirds c = search rules
 
-same-length-2 : tie.Need-same-length-2
-same-length-2 c = search rules
+shape_of-stamp : tie.Need-shape_of-stamp
+shape_of-stamp c = search rules
 
 returns : tie.Need-returns
-returns c =
-    let l = c.before.before in
-    let t = made l.before in
-    placed (entry t).pre t.third-vertices.ensures l.least-twin.ensures
+returns c = let t = made c.before.before.before in
+    placed (entry t).requires t.third-vertices.ensures c.least_twin.ensures
 
-pub same-as-earlier-spec : {M : Type 1} → statement M
-same-as-earlier-spec =
+pub same_as_earlier_spec : {M : Type 1} → statement M
+same_as_earlier_spec =
     tie.close
     (tie.spec
-    third-vertices-requires
-    mul-fill
-    cast-fill
+    third_vertices-requires
+    overflow_mul-triangles
+    overflow_cast-triangles
     fill-requires
-    mul-least-twin
-    least-twin-requires
-    same_length
-    same-length-2
+    overflow_mul-triangles-2
+    least_twin-requires
+    shape_of-thirds
+    shape_of-stamp
     returns)

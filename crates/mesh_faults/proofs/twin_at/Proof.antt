@@ -48,96 +48,78 @@ module _ {h n v : ℕ} {ring thirds stamp : List ℕ} (L : TwinLent h n ring thi
         other s = ne (f ∙ ap (at ring) s ∙ sym e ∙ s)
 
 -- ---- from each test to the links
-
-abbrev entry : tie.After-at2 → tie.Start
+abbrev entry : tie.After-at → tie.Start
 entry c = c.before.before.before.before.before
 
 -- ---- the answers
-
-at-requires : tie.Need-at-requires
-at-requires c κs = search rules
+at-next-requires : tie.Need-at-next-requires
+at-next-requires c κs = search rules
 
 -- the next one is a half-edge
-next-inside : (c : tie.After-at) → c.at.result < c.before.before.before.before.args.n
-next-inside c = inside c.before.before.before.before.requires c.at.ensures
+next-inside : (c : tie.After-at-next) → c.at-next.result < c.args.n
+next-inside c = inside c.requires c.at-next.ensures
 
-at-requires-2 : tie.Need-at-requires-2
-at-requires-2 c κs = omega (arith, next-inside c)
+at-requires : tie.Need-at-requires
+at-requires c κs = omega (arith, next-inside c)
 
-mul-if2 : tie.Need-overflow-mul-if2
-mul-if2 c = omega (arith, next-inside c.before.before)
+offset_bounds-thirds-next : tie.Need-offset_bounds-thirds-next
+offset_bounds-thirds-next c = omega (arith, next-inside c.before.before)
 
-shared-slice-read-if2 : tie.Need-shared-slice-read-if2
-shared-slice-read-if2 c = omega (arith, next-inside c.before.before.before)
+bounds-thirds-next : tie.Need-bounds-thirds-next
+bounds-thirds-next c = omega (arith, next-inside c.before.before.before)
 
-mul-if2-2 : tie.Need-overflow-mul-if2-2
-mul-if2-2 c = search rules
+offset_bounds-thirds-h : tie.Need-offset_bounds-thirds-h
+offset_bounds-thirds-h c = search rules
 
-shared-slice-read-if2-2 : tie.Need-shared-slice-read-if2-2
-shared-slice-read-if2-2 c = search rules
+bounds-thirds-h : tie.Need-bounds-thirds-h
+bounds-thirds-h c = search rules
 
 lesser-requires : tie.Need-lesser-requires
 lesser-requires c κs = search rules
 
 -- past the second test the two have the same third vertex
-same-third : (c : tie.Then2)
-    → let a = c.before.before.before.before in
-    let thirds = (entry a).args.thirds.now in
-    at thirds a.before.at.result ≡ at thirds (entry a).args.h
+same-third : (c : tie.Then-thirds-next)
+    → let thirds = (entry c.before.before.before.before).args.thirds.now in
+    at thirds c.at-next.result ≡ at thirds (entry c.before.before.before.before).args.h
 same-third c = omega arith
 
+returns-then-next-h : tie.Need-returns-then-next-h
+returns-then-next-h c = twins (entry c.before.before.before.before.before.before).requires c.at-next.ensures c.at.ensures c.if-at-h.true (same-third c.before.before)
+    c.if-next-h.true (omega (arith, c.lesser.ensures))
+
+returns-else-next-h : tie.Need-returns-else-next-h
+returns-else-next-h c = no_other (entry c.before.before.before.before.before).requires c.at-next.ensures c.at.ensures c.if-at-h.true c.if-next-h.false
+
+returns-else-thirds-next : tie.Need-returns-else-thirds-next
+returns-else-thirds-next c = no-twin (entry c.before.before.before.before).requires c.at-next.ensures c.at.ensures c.if-at-h.true c.if-thirds-next.false
+
+returns-then-h-next : tie.Need-returns-then-h-next
+returns-then-h-next c = not-ending (entry c.before.before).requires c.at-next.ensures c.if-h-next.true
+
+twin_on_ring-requires : tie.Need-twin_on_ring-requires
+twin_on_ring-requires c κs = ending (entry c.before.before.before).requires c.at-next.ensures c.at.ensures c.if-at-h.false c.if-h-next.false
+
+shape_of-stamp : tie.Need-shape_of-stamp
+shape_of-stamp c = search rules
+
 returns : tie.Need-returns
-returns c =
-    let d = c.before.before in
-    let t = d.before.before.before in
-    let a = t.before in
-    twins (entry a).requires a.before.at.ensures a.at2.ensures t.if1.true (same-third d)
-    c.before.if3.true (omega (arith, c.lesser.ensures))
+returns c = search rules
 
-returns-2 : tie.Need-returns-2
-returns-2 c =
-    let t = c.before.before.before.before in
-    let a = t.before in
-    no_other (entry a).requires a.before.at.ensures a.at2.ensures t.if1.true c.if3.false
-
-returns-3 : tie.Need-returns-3
-returns-3 c =
-    let t = c.before.before.before in
-    let a = t.before in
-    no-twin (entry a).requires a.before.at.ensures a.at2.ensures t.if1.true c.if2.false
-
-returns-4 : tie.Need-returns-4
-returns-4 c =
-    let a = c.before.before in
-    not-ending (entry a).requires a.before.at.ensures c.if4.true
-
-twin-on-ring-requires : tie.Need-twin-on-ring-requires
-twin-on-ring-requires c κs =
-    let l = c.before.before in
-    let a = l.before in
-    ending (entry a).requires a.before.at.ensures a.at2.ensures l.if1.false c.before.if4.false
-
-same_length : tie.Need-same-length
-same_length c = search rules
-
-returns-5 : tie.Need-returns-5
-returns-5 c = search rules
-
-pub twin-at-spec : {M : Type 1} → statement M
-twin-at-spec =
+pub twin_at_spec : {M : Type 1} → statement M
+twin_at_spec =
     tie.close
     (tie.spec
+    at-next-requires
     at-requires
-    at-requires-2
-    mul-if2
-    shared-slice-read-if2
-    mul-if2-2
-    shared-slice-read-if2-2
+    offset_bounds-thirds-next
+    bounds-thirds-next
+    offset_bounds-thirds-h
+    bounds-thirds-h
     lesser-requires
-    returns
-    returns-2
-    returns-3
-    returns-4
-    twin-on-ring-requires
-    same_length
-    returns-5)
+    returns-then-next-h
+    returns-else-next-h
+    returns-else-thirds-next
+    returns-then-h-next
+    twin_on_ring-requires
+    shape_of-stamp
+    returns)

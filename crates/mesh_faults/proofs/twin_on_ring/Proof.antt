@@ -62,66 +62,56 @@ module _ {h n : ℕ} {ring thirds : List ℕ} {least : ℕ} {stamp₀ : List ℕ
   finished l M =
       walked_all (walked_more S.lent (rw (come l) at S.on) (rw (come l) at S.walked) M)
 
-abbrev invariant-loop : tie.invariant-loop
-invariant-loop h n ring thirds least stamp₀ found₀ x₀ stamp found x = Turn h n ring thirds least stamp₀ found stamp x
+abbrev invariant-loop-x : tie.invariant-loop-x
+invariant-loop-x h n ring thirds least stamp₀ found₀ x₀ stamp found x = Turn h n ring thirds least stamp₀ found stamp x
 
-abbrev decreases-loop : tie.decreases-loop
-decreases-loop h n ring thirds least stamp₀ found₀ x₀ stamp found x = h - x
+abbrev decreases-loop-x : tie.decreases-loop-x
+decreases-loop-x h n ring thirds least stamp₀ found₀ x₀ stamp found x = h - x
 
-at-requires : tie.Need-at-requires invariant-loop decreases-loop
-at-requires c κs = omega arith
+at-x-requires : tie.Need-at-x-requires invariant-loop-x decreases-loop-x
+at-x-requires c κs = omega arith
 
-loop-holds : tie.Need-loop-init invariant-loop decreases-loop
-loop-holds c = begun c.before.before.before.before.requires c.at.ensures
+loop-x-init : tie.Need-loop-x-init invariant-loop-x decreases-loop-x
+loop-x-init c = begun c.requires c.at-x.ensures
 
-meet-requires : tie.Need-meet-requires invariant-loop decreases-loop
-meet-requires c κs = meets c.before.before.loop.invariant
+meet-found-requires : tie.Need-meet-found-requires invariant-loop-x decreases-loop-x
+meet-found-requires c κs = meets c.loop-x.invariant
 
-at-requires-2 : tie.Need-at-requires-2 invariant-loop decreases-loop
-at-requires-2 c κs = linked c.before.before.before.before.before.loop.invariant
+at-x-requires-in-loop-x : tie.Need-at-x-requires-in-loop-x invariant-loop-x decreases-loop-x
+at-x-requires-in-loop-x c κs = linked c.loop-x.invariant
 
 -- in the loop x is before h
-before_last : (c : tie.In-loop invariant-loop decreases-loop)
-    → c.before.loop.x < c.before.before.before.before.before.before.args.h
+before_last : (c : tie.In-loop-x invariant-loop-x decreases-loop-x)
+    → c.loop-x.x < c.args.h
 before_last c = omega arith
 
-loop-less : tie.Need-loop-smaller invariant-loop decreases-loop
-loop-less c =
-    let in-loop = c.before.before.before.before.before in
-    less in-loop.before.loop.invariant (before_last in-loop) c.at2.ensures
+loop-x-smaller : tie.Need-loop-x-smaller invariant-loop-x decreases-loop-x
+loop-x-smaller c = less c.loop-x.invariant (before_last c.before.before.before.before.before) c.at-x-in-loop-x.ensures
 
-loop-again : tie.Need-loop-preserved invariant-loop decreases-loop
-loop-again c =
-    let met = c.before.before.before in
-    let in-loop = met.before.before in
-    turned in-loop.before.loop.invariant (before_last in-loop) met.meet.ensures c.at2.ensures
+loop-x-preserved : tie.Need-loop-x-preserved invariant-loop-x decreases-loop-x
+loop-x-preserved c = turned c.loop-x.invariant (before_last c.before.before.before.before.before) c.meet-found.ensures c.at-x-in-loop-x.ensures
 
-meet-requires-2 : tie.Need-meet-requires-2 invariant-loop decreases-loop
-meet-requires-2 c κs = last_meets c.before.before.loop.invariant c.before.loop-test.false
+meet-requires : tie.Need-meet-requires invariant-loop-x decreases-loop-x
+meet-requires c κs = last_meets c.loop-x.invariant c.loop-x-test.false
 
-same_length : tie.Need-same-length invariant-loop decreases-loop
-same_length c =
-    let met = c.before.before in
-    met.meet2.auto.1.1.1.1.0 ∙ met.before.before.before.loop.invariant.walked.long
+shape_of-stamp : tie.Need-shape_of-stamp invariant-loop-x decreases-loop-x
+shape_of-stamp c = c.meet.auto.stamp ∙ c.loop-x.invariant.walked.long
 
-returns : tie.Need-returns invariant-loop decreases-loop
-returns c =
-    let met = c.before.before in
-    let left = met.before.before in
-    finished left.before.loop.invariant left.loop-test.false met.meet2.ensures
+returns : tie.Need-returns invariant-loop-x decreases-loop-x
+returns c = finished c.loop-x.invariant c.loop-x-test.false c.meet.ensures
 
-pub twin-on-ring-spec : {M : Type 1} → statement M
-twin-on-ring-spec =
+pub twin_on_ring_spec : {M : Type 1} → statement M
+twin_on_ring_spec =
     tie.close
     (tie.spec
-    invariant-loop
-    decreases-loop
-    at-requires
-    loop-holds
+    invariant-loop-x
+    decreases-loop-x
+    at-x-requires
+    loop-x-init
+    meet-found-requires
+    at-x-requires-in-loop-x
+    loop-x-smaller
+    loop-x-preserved
     meet-requires
-    at-requires-2
-    loop-less
-    loop-again
-    meet-requires-2
-    same_length
+    shape_of-stamp
     returns)

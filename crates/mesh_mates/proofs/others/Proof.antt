@@ -54,77 +54,74 @@ module _ {ring : List ℕ} {n : ℕ} {other₀ other : List ℕ} {h : ℕ} (T : 
   finished : n ≤ h → OthersOf n ring other
   finished l = record { entry = λ g b. T.made g (omega arith) }
 
-abbrev invariant-loop : tie.invariant-loop
-invariant-loop ring n other₀ h₀ other h = Turn ring n other₀ other h
+abbrev invariant-loop-h : tie.invariant-loop-h
+invariant-loop-h ring n other₀ h₀ other h = Turn ring n other₀ other h
 
-abbrev decreases-loop : tie.decreases-loop
-decreases-loop ring n other₀ h₀ other h = n - h
+abbrev decreases-loop-h : tie.decreases-loop-h
+decreases-loop-h ring n other₀ h₀ other h = n - h
 
-loop-holds : tie.Need-loop-init invariant-loop decreases-loop
-loop-holds c = begun c.before.before.requires
+loop-h-init : tie.Need-loop-h-init invariant-loop-h decreases-loop-h
+loop-h-init c = begun c.requires
 
-at-requires : tie.Need-at-requires invariant-loop decreases-loop
-at-requires c κs = omega arith
+at-next-requires : tie.Need-at-next-requires invariant-loop-h decreases-loop-h
+at-next-requires c κs = omega arith
 
 -- `next` is below n
-next-below : (c : tie.After-at invariant-loop decreases-loop) → c.at.result < c.before.before.before.before.before.args.n
-next-below c = link-below c.before.before.loop.invariant c.before.loop-test.true c.at.ensures
+next-below : (c : tie.After-at-next invariant-loop-h decreases-loop-h) → c.at-next.result < c.args.n
+next-below c = link-below c.loop-h.invariant c.loop-h-test.true c.at-next.ensures
 
-at-requires-2 : tie.Need-at-requires-2 invariant-loop decreases-loop
-at-requires-2 c κs = omega (arith, next-below c)
+at-requires : tie.Need-at-requires invariant-loop-h decreases-loop-h
+at-requires c κs = omega (arith, next-below c)
 
-chosen-requires : tie.Need-chosen-requires invariant-loop decreases-loop
+chosen-requires : tie.Need-chosen-requires invariant-loop-h decreases-loop-h
 chosen-requires c κs = tt
 
-cast-other : tie.Need-overflow-cast-other invariant-loop decreases-loop
-cast-other c =
-    let below = next-below c.before.before in
+overflow_cast-other : tie.Need-overflow_cast-other invariant-loop-h decreases-loop-h
+overflow_cast-other c = let below = next-below c.before.before in
     omega (
       arith,
-      chosen-le {n = c.before.before.before.before.before.before.before.args.n} (omega arith)
+      chosen-le {n = c.args.n} (omega arith)
           (omega arith) c.chosen.ensures,
     )
 
-mul-other : tie.Need-overflow-mul-other invariant-loop decreases-loop
-mul-other c = omega arith
+offset_bounds-other-h : tie.Need-offset_bounds-other-h invariant-loop-h decreases-loop-h
+offset_bounds-other-h c = omega arith
 
-slice-write-other : tie.Need-slice-write-other invariant-loop decreases-loop
-slice-write-other c = omega arith
+bounds-other-h : tie.Need-bounds-other-h invariant-loop-h decreases-loop-h
+bounds-other-h c = omega arith
 
-add-h : tie.Need-overflow-add-h invariant-loop decreases-loop
-add-h c = omega arith
+overflow_add-h : tie.Need-overflow_add-h invariant-loop-h decreases-loop-h
+overflow_add-h c = omega arith
 
-loop-less : tie.Need-loop-smaller invariant-loop decreases-loop
-loop-less c = omega arith
+loop-h-smaller : tie.Need-loop-h-smaller invariant-loop-h decreases-loop-h
+loop-h-smaller c = omega arith
 
-loop-again : tie.Need-loop-preserved invariant-loop decreases-loop
-loop-again c =
-    let in-loop = c.before.before.before in
-    turned in-loop.before.loop.invariant in-loop.loop-test.true c.before.before.at.ensures
-    c.before.at2.ensures
+loop-h-preserved : tie.Need-loop-h-preserved invariant-loop-h decreases-loop-h
+loop-h-preserved c = turned c.loop-h.invariant c.loop-h-test.true c.at-next.ensures
+    c.at.ensures
     c.chosen.ensures
 
-same_length : tie.Need-same-length invariant-loop decreases-loop
-same_length c = omega arith
+shape_of-other : tie.Need-shape_of-other invariant-loop-h decreases-loop-h
+shape_of-other c = omega arith
 
-returns : tie.Need-returns invariant-loop decreases-loop
-returns c = finished c.before.loop.invariant c.loop-test.false
+returns : tie.Need-returns invariant-loop-h decreases-loop-h
+returns c = finished c.loop-h.invariant c.loop-h-test.false
 
-pub others-spec : {M : Type 1} → statement M
-others-spec =
+pub others_spec : {M : Type 1} → statement M
+others_spec =
     tie.close
     (tie.spec
-    invariant-loop
-    decreases-loop
-    loop-holds
+    invariant-loop-h
+    decreases-loop-h
+    loop-h-init
+    at-next-requires
     at-requires
-    at-requires-2
     chosen-requires
-    cast-other
-    mul-other
-    slice-write-other
-    add-h
-    loop-less
-    loop-again
-    same_length
+    overflow_cast-other
+    offset_bounds-other-h
+    bounds-other-h
+    overflow_add-h
+    loop-h-smaller
+    loop-h-preserved
+    shape_of-other
     returns)

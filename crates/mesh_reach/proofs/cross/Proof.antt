@@ -9,92 +9,84 @@ use Rattle.mesh_reach.proofs.cross.Statement.{statement}
 use Rattle.mesh_reach.proofs.cross.Tie as tie
 
 -- src/lib.rt:66:9
-at-requires : tie.Need-at-requires
-at-requires c κs = search rules
+at-next-requires : tie.Need-at-next-requires
+at-next-requires c κs = search rules
 
 -- src/lib.rt:67:8
-at-requires-2 : tie.Need-at-requires-2
-at-requires-2 c κs =
-    let lent = c.before.before.before.before.before.requires in
-    omega (arith, next-inside lent c.at.ensures, lent.ring_room)
+at-requires : tie.Need-at-requires
+at-requires c κs = let lent = c.requires in
+    omega (arith, next-inside lent c.at-next.ensures, lent.ring_room)
 
 -- src/lib.rt:68:9
 push-requires : tie.Need-push-requires
-push-requires c κs =
-    let first-link = c.before.before.before.before in
-    next-pushable first-link.before.before.before.before.before.requires first-link.at.ensures
+push-requires c κs = next-pushable c.requires c.at-next.ensures
 
 -- src/lib.rt:68:9
-same_length : tie.Need-same-length
-same_length c = search rules
+shape_of-marks-then-at-h : tie.Need-shape_of-marks-then-at-h
+shape_of-marks-then-at-h c = search rules
 
 -- src/lib.rt:68:9
-same-length-2 : tie.Need-same-length-2
-same-length-2 c = search rules
+shape_of-queue-then-at-h : tie.Need-shape_of-queue-then-at-h
+shape_of-queue-then-at-h c = search rules
 
 -- src/lib.rt:68:9
 -- where the test passes, the second link leads back
-back : (c : tie.Then1)
-    → at c.before.before.before.before.before.before.before.args.ring.now c.before.before.at.result
-    ≡ c.before.before.before.before.before.before.before.args.h
+back : (c : tie.Then-at-h)
+    → at c.args.ring.now c.at-next.result
+    ≡ c.args.h
 back c = omega arith
 
-returns : tie.Need-returns
-returns c =
-    let pushed = c.before.before.before.before in
-    let then = pushed.before.before.before in
-    let first-link = then.before.before in
-    crossed-two first-link.before.before.before.before.before.requires first-link.at.ensures (back then)
-    pushed.push.ensures
+returns-then-at-h : tie.Need-returns-then-at-h
+returns-then-at-h c = crossed-two c.requires c.at-next.ensures (back c.before.before.before.before.before.before.before)
+    c.push.ensures
 
 -- src/lib.rt:70:8
-mul-if2 : tie.Need-overflow-mul-if2
-mul-if2 c = search rules
+offset_bounds-opened-h : tie.Need-offset_bounds-opened-h
+offset_bounds-opened-h c = search rules
 
 -- src/lib.rt:70:8
-slice-read-if2 : tie.Need-slice-read-if2
-slice-read-if2 c = search rules
+bounds-opened-h : tie.Need-bounds-opened-h
+bounds-opened-h c = search rules
 
 -- src/lib.rt:71:9
-returns-2 : tie.Need-returns-2
-returns-2 c =
-    crossed-opened c.before.before.before.before.before.before.before.before.before.requires (omega arith)
+returns-then-opened-h-ne0 : tie.Need-returns-then-opened-h-ne0
+returns-then-opened-h-ne0 c = crossed-opened c.requires (omega arith)
 
 -- src/lib.rt:73:5
-open-ring-requires : tie.Need-open-ring-requires
-open-ring-requires c κs = search rules
+open_ring-requires : tie.Need-open_ring-requires
+open_ring-requires c κs = search rules
 
 -- src/lib.rt:53:1
-same-length-3 : tie.Need-same-length-3
-same-length-3 c = search rules
+shape_of-marks : tie.Need-shape_of-marks
+shape_of-marks c = search rules
 
 -- src/lib.rt:53:1
-same-length-4 : tie.Need-same-length-4
-same-length-4 c = search rules
+shape_of-queue : tie.Need-shape_of-queue
+shape_of-queue c = search rules
 
 -- src/lib.rt:53:1
-same-length-5 : tie.Need-same-length-5
-same-length-5 c = search rules
+shape_of-opened : tie.Need-shape_of-opened
+shape_of-opened c = search rules
 
 -- src/lib.rt:53:1
-returns-3 : tie.Need-returns-3
-returns-3 c = search rules
+returns : tie.Need-returns
+returns c = search rules
 
-pub cross-spec : {M : Type 1} → statement M
-cross-spec =
+pub cross_spec : {M : Type 1} → statement M
+cross_spec =
     tie.close
     (tie.spec
+    at-next-requires
     at-requires
-    at-requires-2
     push-requires
-    same_length
-    same-length-2
-    returns
-    mul-if2
-    slice-read-if2
-    returns-2
-    open-ring-requires
-    same-length-3
-    same-length-4
-    same-length-5
-    returns-3)
+    shape_of-marks-then-at-h
+    shape_of-queue-then-at-h
+    returns-then-at-h
+    offset_bounds-opened-h
+    bounds-opened-h
+    returns-then-opened-h-ne0
+    open_ring-requires
+    shape_of-marks
+    shape_of-queue
+    shape_of-opened
+    returns)

@@ -142,78 +142,72 @@ module _ {h F : ℕ} {ring : List ℕ} {filled : ℕ} {marks₀ queue₀ opened�
               (λ other. T.opens key R g (λ z. o (at_set_other opened x 1 g other ∙ z)));
         })
 
-abbrev invariant-loop : tie.invariant-loop
-invariant-loop h triangles ring filled marks₀ queue₀ opened₀ count₀ x₀ marks queue opened count x =
+abbrev invariant-loop-x : tie.invariant-loop-x
+invariant-loop-x h triangles ring filled marks₀ queue₀ opened₀ count₀ x₀ marks queue opened count x =
     Turn h triangles ring filled marks₀ queue₀ opened₀ marks queue opened count x
 
-abbrev decreases-loop : tie.decreases-loop
-decreases-loop h triangles ring filled marks₀ queue₀ opened₀ count₀ x₀ marks queue opened count x = left h (3 * triangles) x
+abbrev decreases-loop-x : tie.decreases-loop-x
+decreases-loop-x h triangles ring filled marks₀ queue₀ opened₀ count₀ x₀ marks queue opened count x = left h (3 * triangles) x
 
-at-requires : tie.Need-at-requires invariant-loop decreases-loop
-at-requires c κs = omega arith
+at-x-requires : tie.Need-at-x-requires invariant-loop-x decreases-loop-x
+at-x-requires c κs = omega arith
 
-loop-holds : tie.Need-loop-init invariant-loop decreases-loop
-loop-holds c = begun c.before.before.before.before.before.requires c.at.ensures
+loop-x-init : tie.Need-loop-x-init invariant-loop-x decreases-loop-x
+loop-x-init c = begun c.requires c.at-x.ensures
 
 -- in the loop x is another half-edge than h
-another : (c : tie.In-loop invariant-loop decreases-loop)
-    → c.before.loop.x ≢ c.before.before.before.before.before.before.before.args.h
+another : (c : tie.In-loop-x invariant-loop-x decreases-loop-x)
+    → c.loop-x.x ≢ c.args.h
 another c = omega arith
 
-mul-opened : tie.Need-overflow-mul-opened invariant-loop decreases-loop
-mul-opened c = omega (arith, opened-room c.before.loop.invariant)
+offset_bounds-opened-x : tie.Need-offset_bounds-opened-x invariant-loop-x decreases-loop-x
+offset_bounds-opened-x c = omega (arith, opened-room c.loop-x.invariant)
 
-slice-write-opened : tie.Need-slice-write-opened invariant-loop decreases-loop
-slice-write-opened c = opened-room c.before.loop.invariant
+bounds-opened-x : tie.Need-bounds-opened-x invariant-loop-x decreases-loop-x
+bounds-opened-x c = opened-room c.loop-x.invariant
 
-push-requires : tie.Need-push-requires invariant-loop decreases-loop
-push-requires c κs = pushable c.before.before.before.loop.invariant
+push-count-requires : tie.Need-push-count-requires invariant-loop-x decreases-loop-x
+push-count-requires c κs = pushable c.loop-x.invariant
 
-at-requires-2 : tie.Need-at-requires-2 invariant-loop decreases-loop
-at-requires-2 c κs =
-    let turn = c.before.before.before.before.before.before.before.before.loop.invariant in
+at-x-requires-in-loop-x : tie.Need-at-x-requires-in-loop-x invariant-loop-x decreases-loop-x
+at-x-requires-in-loop-x c κs = let turn = c.loop-x.invariant in
     omega (arith, turn.within, turn.lent.ring_room)
 
-loop-less : tie.Need-loop-smaller invariant-loop decreases-loop
-loop-less c =
-    let in-loop = c.before.before.before.before.before.before.before.before in
-    less in-loop.before.loop.invariant (another in-loop) c.at2.ensures
+loop-x-smaller : tie.Need-loop-x-smaller invariant-loop-x decreases-loop-x
+loop-x-smaller c = less c.loop-x.invariant (another c.before.before.before.before.before.before.before.before) c.at-x-in-loop-x.ensures
 
-loop-again : tie.Need-loop-preserved invariant-loop decreases-loop
-loop-again c =
-    let pushed = c.before.before.before.before.before in
-    let in-loop = pushed.before.before.before in
-    turned in-loop.before.loop.invariant pushed.push.ensures (another in-loop)
-    pushed.push.auto.1.1.0 pushed.push.auto.1.1.1.0
-    c.at2.ensures
+loop-x-preserved : tie.Need-loop-x-preserved invariant-loop-x decreases-loop-x
+loop-x-preserved c = turned c.loop-x.invariant c.push-count.ensures (another c.before.before.before.before.before.before.before.before)
+    c.push-count.auto.marks c.push-count.auto.queue
+    c.at-x-in-loop-x.ensures
 
-same_length : tie.Need-same-length invariant-loop decreases-loop
-same_length c = c.before.loop.invariant.marks_long
+shape_of-marks : tie.Need-shape_of-marks invariant-loop-x decreases-loop-x
+shape_of-marks c = c.loop-x.invariant.marks_long
 
-same-length-2 : tie.Need-same-length-2 invariant-loop decreases-loop
-same-length-2 c = c.before.loop.invariant.queue_long
+shape_of-queue : tie.Need-shape_of-queue invariant-loop-x decreases-loop-x
+shape_of-queue c = c.loop-x.invariant.queue_long
 
-same-length-3 : tie.Need-same-length-3 invariant-loop decreases-loop
-same-length-3 c = c.before.loop.invariant.opened_long
+shape_of-opened : tie.Need-shape_of-opened invariant-loop-x decreases-loop-x
+shape_of-opened c = c.loop-x.invariant.opened_long
 
-returns : tie.Need-returns invariant-loop decreases-loop
-returns c = finished c.before.loop.invariant (omega arith)
+returns : tie.Need-returns invariant-loop-x decreases-loop-x
+returns c = finished c.loop-x.invariant (omega arith)
 
-pub open-ring-spec : {M : Type 1} → statement M
-open-ring-spec =
+pub open_ring_spec : {M : Type 1} → statement M
+open_ring_spec =
     tie.close
     (tie.spec
-    invariant-loop
-    decreases-loop
-    at-requires
-    loop-holds
-    mul-opened
-    slice-write-opened
-    push-requires
-    at-requires-2
-    loop-less
-    loop-again
-    same_length
-    same-length-2
-    same-length-3
+    invariant-loop-x
+    decreases-loop-x
+    at-x-requires
+    loop-x-init
+    offset_bounds-opened-x
+    bounds-opened-x
+    push-count-requires
+    at-x-requires-in-loop-x
+    loop-x-smaller
+    loop-x-preserved
+    shape_of-marks
+    shape_of-queue
+    shape_of-opened
     returns)

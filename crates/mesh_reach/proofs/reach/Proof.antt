@@ -8,68 +8,62 @@ use Rattle.mesh_reach.proofs.reach.Statement.{statement}
 use Rattle.mesh_reach.proofs.reach.Tie as tie
 
 -- where the marks are cleared, before `spread` is called
-abbrev cleared : tie.After-spread-arg3 → tie.After-fill
+abbrev cleared : tie.After-spread-arg-3-1 → tie.After-fill
 cleared c = c.before.before.before.before.before.before.before.before.before
 
 -- and the function's entry
-abbrev entry : tie.After-spread-arg3 → tie.Start
+abbrev entry : tie.After-spread-arg-3-1 → tie.Start
 entry c = (cleared c).before.before.before.before.before.before
 
 fill-requires : tie.Need-fill-requires
 fill-requires c κs = search rules
 
-mul-fill : tie.Need-overflow-mul-fill
-mul-fill c = search rules
+overflow_mul-triangles : tie.Need-overflow_mul-triangles
+overflow_mul-triangles c = search rules
 
 fill-requires-2 : tie.Need-fill-requires-2
 fill-requires-2 c κs = search rules
 
-mul-marks : tie.Need-overflow-mul-marks
-mul-marks c = search rules
+offset_bounds-marks-start : tie.Need-offset_bounds-marks-start
+offset_bounds-marks-start c = search rules
 
-slice-write-marks : tie.Need-slice-write-marks
-slice-write-marks c = search rules
+bounds-marks-start : tie.Need-bounds-marks-start
+bounds-marks-start c = search rules
 
-cast-queue : tie.Need-overflow-cast-queue
-cast-queue c = search rules
+overflow_cast-queue : tie.Need-overflow_cast-queue
+overflow_cast-queue c = search rules
 
-slice-write-queue : tie.Need-slice-write-queue
-slice-write-queue c = search rules
+bounds-queue-0 : tie.Need-bounds-queue-0
+bounds-queue-0 c = search rules
 
 spread-requires : tie.Need-spread-requires
-spread-requires c κs =
-    spread-lent (entry c).requires (cleared c).fill.ensures c.before.before.before.before.before.fill2.ensures
+spread-requires c κs = spread-lent (entry c).requires (cleared c).fill.ensures c.fill-2.ensures
 
-same_length : tie.Need-same-length
-same_length c =
-    let spread = c.before.before.before.before.before.before in
-    omega (arith, simp length-set at spread.spread.auto.1.1.0, (cleared spread.before).fill.auto.0)
+shape_of-marks : tie.Need-shape_of-marks
+shape_of-marks c = omega (arith, simp length-set at c.spread.auto.marks, (cleared c.before.before.before.before.before.before.before).fill.auto.s)
 
-same-length-2 : tie.Need-same-length-2
-same-length-2 c =
-    simp length-set at c.before.before.before.before.before.before.spread.auto.1.1.1.0
+shape_of-queue : tie.Need-shape_of-queue
+shape_of-queue c = simp length-set at c.spread.auto.queue
 
-same-length-3 : tie.Need-same-length-3
-same-length-3 c = search rules
+shape_of-opened : tie.Need-shape_of-opened
+shape_of-opened c = search rules
 
 returns : tie.Need-returns
-returns c =
-    let spread = c.before.before.before.before.before.before in
-    rw (start-front (entry spread.before).requires) at spread.spread.ensures
+returns c = rw (start-front (entry c.before.before.before.before.before.before.before).requires) at c.spread.ensures
 
-pub reach-spec : {M : Type 1} → statement M
-reach-spec =
+pub reach_spec : {M : Type 1} → statement M
+reach_spec =
     tie.close
     (tie.spec
     fill-requires
-    mul-fill
+    overflow_mul-triangles
     fill-requires-2
-    mul-marks
-    slice-write-marks
-    cast-queue
-    slice-write-queue
+    offset_bounds-marks-start
+    bounds-marks-start
+    overflow_cast-queue
+    bounds-queue-0
     spread-requires
-    same_length
-    same-length-2
-    same-length-3
+    shape_of-marks
+    shape_of-queue
+    shape_of-opened
     returns)

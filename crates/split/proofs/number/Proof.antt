@@ -25,67 +25,64 @@ chosen-numbered e (new p) (met q) = absurd (p q)
 chosen-numbered e (new p) (new q) = rw e (same (λ s. p (e ∙ s)))
 
 -- what is written is an entry or the next number, and both fit
-fits : (c : tie.After-chosen) → c.chosen.result < 65536
+fits : (c : tie.After-chosen-number) → c.chosen-number.result < 65536
 fits c =
-    let known = c.before.before.before in
-    chosen-below c.chosen.ensures (omega arith)
-    (omega (arith, known.slice-known.given known.before.args.h))
+    chosen-below c.chosen-number.ensures (omega arith)
+    (omega (arith, c.slice_known-1.given c.args.h))
 
-at-requires : tie.Need-at-requires
-at-requires c κs = search rules
+at-held-requires : tie.Need-at-held-requires
+at-held-requires c κs = search rules
 
-add-chosen : tie.Need-overflow-add-chosen
-add-chosen c = search rules
+overflow_add-vertices : tie.Need-overflow_add-vertices
+overflow_add-vertices c = search rules
+
+chosen-number-requires : tie.Need-chosen-number-requires
+chosen-number-requires c κs = search rules
+
+overflow_cast-numbers : tie.Need-overflow_cast-numbers
+overflow_cast-numbers c = omega (arith, fits c)
+
+offset_bounds-numbers-h : tie.Need-offset_bounds-numbers-h
+offset_bounds-numbers-h c = search rules
+
+bounds-numbers-h : tie.Need-bounds-numbers-h
+bounds-numbers-h c = search rules
+
+overflow_cast-numbers-2 : tie.Need-overflow_cast-numbers-2
+overflow_cast-numbers-2 c = omega (arith, fits c)
+
+offset_bounds-numbers-next : tie.Need-offset_bounds-numbers-next
+offset_bounds-numbers-next c = search rules
+
+bounds-numbers-next : tie.Need-bounds-numbers-next
+bounds-numbers-next c = search rules
+
+overflow_add-edges : tie.Need-overflow_add-edges
+overflow_add-edges c = search rules
 
 chosen-requires : tie.Need-chosen-requires
 chosen-requires c κs = search rules
 
-cast-numbers : tie.Need-overflow-cast-numbers
-cast-numbers c = omega (arith, fits c)
-
-mul-numbers : tie.Need-overflow-mul-numbers
-mul-numbers c = search rules
-
-slice-write-numbers : tie.Need-slice-write-numbers
-slice-write-numbers c = search rules
-
-cast-numbers-2 : tie.Need-overflow-cast-numbers-2
-cast-numbers-2 c = omega (arith, fits c)
-
-mul-numbers-2 : tie.Need-overflow-mul-numbers-2
-mul-numbers-2 c = search rules
-
-slice-write-numbers-2 : tie.Need-slice-write-numbers-2
-slice-write-numbers-2 c = search rules
-
-add-chosen-2 : tie.Need-overflow-add-chosen-2
-add-chosen-2 c = search rules
-
-chosen-requires-2 : tie.Need-chosen-requires-2
-chosen-requires-2 c κs = search rules
-
-same_length : tie.Need-same-length
-same_length c = search rules
+shape_of-numbers : tie.Need-shape_of-numbers
+shape_of-numbers c = search rules
 
 returns : tie.Need-returns
-returns c =
-    let first = c.before in
-    chosen-numbered first.before.at.ensures first.chosen.ensures c.chosen2.ensures
+returns c = chosen-numbered c.at-held.ensures c.chosen-number.ensures c.chosen.ensures
 
-pub number-spec : {M : Type 1} → statement M
-number-spec =
+pub number_spec : {M : Type 1} → statement M
+number_spec =
     tie.close
     (tie.spec
-    at-requires
-    add-chosen
+    at-held-requires
+    overflow_add-vertices
+    chosen-number-requires
+    overflow_cast-numbers
+    offset_bounds-numbers-h
+    bounds-numbers-h
+    overflow_cast-numbers-2
+    offset_bounds-numbers-next
+    bounds-numbers-next
+    overflow_add-edges
     chosen-requires
-    cast-numbers
-    mul-numbers
-    slice-write-numbers
-    cast-numbers-2
-    mul-numbers-2
-    slice-write-numbers-2
-    add-chosen-2
-    chosen-requires-2
-    same_length
+    shape_of-numbers
     returns)

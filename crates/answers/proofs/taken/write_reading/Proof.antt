@@ -45,27 +45,21 @@ untouched (InsideOut _) N F coarse map faces out _ = refl
 untouched Nothing N F coarse map faces out _ = refl
 
 -- the function's start
-abbrev entry : tie.After-known-told → tie.Start
-entry c = c.before.before.before.before.before.before.before.before.before
+abbrev entry : tie.In-Reading → tie.Start
+entry c = c.before.before.before.before.before.before.before
 
-enum-known-taken : tie.Need-enum-known-taken
-enum-known-taken c = search rules
+enum_known-taken : tie.Need-enum_known-taken
+enum_known-taken c = search rules
 
-returns : tie.Need-returns
-returns c =
-    let s = c.before.before.before.before.before.before.before in
-    untouched s.args.taken s.args.vertices s.args.triangles s.args.coarse.now s.args.map.now
-    s.args.faces.now _ c.match.keys2
+returns-in_default : tie.Need-returns-in_default
+returns-in_default c = untouched c.args.taken c.args.vertices c.args.triangles c.args.coarse.now c.args.map.now
+    c.args.faces.now _ c.in_default.in_default-own.keys2
 
-mul-copy : tie.Need-overflow-mul-copy
-mul-copy c =
-    let t = c.before in
-    omega (arith, (mesh-rooms (entry t).requires t.before.taken.given.1).0)
+overflow_mul-centres : tie.Need-overflow_mul-centres
+overflow_mul-centres c = omega (arith, (mesh-rooms (entry c.before).requires c.in-Reading.is).0)
 
 copy-requires : tie.Need-copy-requires
-copy-requires c κs =
-    let t = c.before in
-    mesh-rooms (entry t).requires t.before.taken.given.1
+copy-requires c κs = mesh-rooms (entry c.before).requires c.in-Reading.is
 
 copy-requires-2 : tie.Need-copy-requires-2
 copy-requires-2 c κs = search rules
@@ -73,35 +67,30 @@ copy-requires-2 c κs = search rules
 copy-requires-3 : tie.Need-copy-requires-3
 copy-requires-3 c κs = search rules
 
-same_length : tie.Need-same-length
-same_length c = search rules
+shape_of-mesh : tie.Need-shape_of-mesh
+shape_of-mesh c = search rules
 
-same-length-2 : tie.Need-same-length-2
-same-length-2 c = search rules
+shape_of-vertex_map : tie.Need-shape_of-vertex_map
+shape_of-vertex_map c = search rules
 
-same-length-3 : tie.Need-same-length-3
-same-length-3 c = search rules
+shape_of-triangle_map : tie.Need-shape_of-triangle_map
+shape_of-triangle_map c = search rules
 
-returns-2 : tie.Need-returns-2
-returns-2 c =
-    let third = c.before.before in
-    let second = third.before.before.before.before in
-    let first = second.before.before.before.before in
-    let t = first.before.before in
-    copied (entry t).requires t.before.taken.given.1 first.copy.ensures second.copy2.ensures
-    third.copy3.ensures
+returns : tie.Need-returns
+returns c = copied (entry c.before.before.before.before.before.before.before.before.before.before.before.before).requires c.in-Reading.is c.copy.ensures c.copy-2.ensures
+    c.copy-3.ensures
 
-pub write-reading-spec : {M : Type 1} → statement M
-write-reading-spec =
+pub write_reading_spec : {M : Type 1} → statement M
+write_reading_spec =
     tie.close
     (tie.spec
-    enum-known-taken
-    returns
-    mul-copy
+    enum_known-taken
+    returns-in_default
+    overflow_mul-centres
     copy-requires
     copy-requires-2
     copy-requires-3
-    same_length
-    same-length-2
-    same-length-3
-    returns-2)
+    shape_of-mesh
+    shape_of-vertex_map
+    shape_of-triangle_map
+    returns)

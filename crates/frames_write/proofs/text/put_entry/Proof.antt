@@ -7,42 +7,41 @@ use Rattle.frames_write.proofs.text.put_entry.Statement.{statement}
 use Rattle.frames_write.proofs.text.put_entry.Tie as tie
 
 -- ---- what is left to put
-
-abbrev start : tie.After-put-two-arg → tie.Start
+abbrev start : tie.After-put_two-arg-1 → tie.Start
 start c = c.before.before
 
 -- the entry and the end
-two-left : (c : tie.After-put-two)
+two-left : (c : tie.After-put_two-second)
     → let a = (start c.before).args in
     Left (line a.kind (four_digits a.entry)) a.out.now a.place (four_digits a.entry ∷ (10 ∷ []) ∷ [])
-    c.put_two.result c.put_two.new.0
-two-left c = left-more (left-all _ (entry_line-parts _ _) (start c.before).requires) c.put_two.ensures
+    c.put_two-second.result c.put_two-second.new.out
+two-left c = left-more (left-all _ (entry_line-parts _ _) (start c.before).requires) c.put_two-second.ensures
 
-abbrev second : tie.After-put-four → tie.After-put-two
+abbrev second : tie.After-put_four-last → tie.After-put_two-second
 second c = c.before.before.before.before
 
 -- ---- the answers
+put_two-second-requires : tie.Need-put_two-second-requires
+put_two-second-requires c κs = left-room (left-all _ (entry_line-parts _ _) (start c).requires)
 
-put-two-requires : tie.Need-put-two-requires
-put-two-requires c κs = left-room (left-all _ (entry_line-parts _ _) (start c).requires)
+put_four-last-requires : tie.Need-put_four-last-requires
+put_four-last-requires c κs = left-room (two-left c.before.before.before)
 
-put-four-requires : tie.Need-put-four-requires
-put-four-requires c κs = left-room (two-left c.before.before.before)
+put_end-requires : tie.Need-put_end-requires
+put_end-requires c κs = left-room (left-more (two-left (second c.before.before.before)) c.put_four-last.ensures)
 
-put-end-requires : tie.Need-put-end-requires
-put-end-requires c κs =
-    let b = c.before.before.before in
-    left-room (left-more (two-left (second b)) b.put_four.ensures)
-
-same_length : tie.Need-same-length
-same_length c = search rules
+shape_of-out : tie.Need-shape_of-out
+shape_of-out c = search rules
 
 returns : tie.Need-returns
-returns c =
-    let e = c.before.before in
-    let b = e.before.before.before.before in
-    left-none (left-more (left-more (two-left (second b)) b.put_four.ensures) e.put-end.ensures)
+returns c = left-none (left-more (left-more (two-left (second c.before.before.before.before.before.before)) c.put_four-last.ensures) c.put_end.ensures)
 
-pub put-entry-spec : {M : Type 1} → statement M
-put-entry-spec =
-    tie.close (tie.spec put-two-requires put-four-requires put-end-requires same_length returns)
+pub put_entry_spec : {M : Type 1} → statement M
+put_entry_spec =
+    tie.close
+    (tie.spec
+    put_two-second-requires
+    put_four-last-requires
+    put_end-requires
+    shape_of-out
+    returns)

@@ -8,66 +8,61 @@ use Rattle.frames_write.proofs.writing.put_mesh.Statement.{statement}
 use Rattle.frames_write.proofs.writing.put_mesh.Tie as tie
 
 -- ---- what is left to put
-
 abbrev Still : tie.Start → List (List ℕ) → ℕ → List ℕ → Type 0
 Still s = Left (mesh_line s.args.vertices s.args.triangles) s.args.out.now s.args.place
 
-abbrev start : tie.After-put-two-arg → tie.Start
+abbrev start : tie.After-put_two-arg-1 → tie.Start
 start c = c.before.before
 
 -- all but the kind
-three-left : (c : tie.After-put-two)
-    → let s = start c.before in
-    Still s (four_digits s.args.vertices ∷ four_digits s.args.triangles ∷ (10 ∷ []) ∷ [])
-    c.put_two.result c.put_two.new.0
-three-left c = left-more (left-all _ (mesh_line-parts _ _) (start c.before).requires) c.put_two.ensures
+three-left : (c : tie.After-put_two-second)
+    → Still (start c.before) (four_digits c.args.vertices ∷ four_digits c.args.triangles ∷ (10 ∷ []) ∷ [])
+    c.put_two-second.result c.put_two-second.new.out
+three-left c = left-more (left-all _ (mesh_line-parts _ _) (start c.before).requires) c.put_two-second.ensures
 
-abbrev second : tie.After-put-four → tie.After-put-two
+abbrev second : tie.After-put_four-third → tie.After-put_two-second
 second c = c.before.before.before.before
 
 -- F and the end
-two-left : (c : tie.After-put-four)
+two-left : (c : tie.After-put_four-third)
     → let s = start (second c).before in
-    Still s (four_digits s.args.triangles ∷ (10 ∷ []) ∷ []) c.put_four.result c.put_four.new.0
-two-left c = left-more (three-left (second c)) c.put_four.ensures
+    Still s (four_digits s.args.triangles ∷ (10 ∷ []) ∷ []) c.put_four-third.result c.put_four-third.new.out
+two-left c = left-more (three-left (second c)) c.put_four-third.ensures
 
-abbrev third : tie.After-put-four2 → tie.After-put-four
+abbrev third : tie.After-put_four-last → tie.After-put_four-third
 third c = c.before.before.before.before
 
 -- the end
-one_left : (c : tie.After-put-four2)
-    → Still (start (second (third c)).before) ((10 ∷ []) ∷ []) c.put-four2.result c.put-four2.new.0
-one_left c = left-more (two-left (third c)) c.put-four2.ensures
+one_left : (c : tie.After-put_four-last)
+    → Still (start (second (third c)).before) ((10 ∷ []) ∷ []) c.put_four-last.result c.put_four-last.new.out
+one_left c = left-more (two-left (third c)) c.put_four-last.ensures
 
 -- ---- the answers
+put_two-second-requires : tie.Need-put_two-second-requires
+put_two-second-requires c κs = left-room (left-all _ (mesh_line-parts _ _) (start c).requires)
 
-put-two-requires : tie.Need-put-two-requires
-put-two-requires c κs = left-room (left-all _ (mesh_line-parts _ _) (start c).requires)
+put_four-third-requires : tie.Need-put_four-third-requires
+put_four-third-requires c κs = left-room (three-left c.before.before.before)
 
-put-four-requires : tie.Need-put-four-requires
-put-four-requires c κs = left-room (three-left c.before.before.before)
+put_four-last-requires : tie.Need-put_four-last-requires
+put_four-last-requires c κs = left-room (two-left c.before.before.before)
 
-put-four-requires-2 : tie.Need-put-four-requires-2
-put-four-requires-2 c κs = left-room (two-left c.before.before.before)
+put_end-requires : tie.Need-put_end-requires
+put_end-requires c κs = left-room (one_left c.before.before.before)
 
-put-end-requires : tie.Need-put-end-requires
-put-end-requires c κs = left-room (one_left c.before.before.before)
-
-same_length : tie.Need-same-length
-same_length c = search rules
+shape_of-out : tie.Need-shape_of-out
+shape_of-out c = search rules
 
 returns : tie.Need-returns
-returns c =
-    let e = c.before.before in
-    left-none (left-more (one_left e.before.before.before.before) e.put-end.ensures)
+returns c = left-none (left-more (one_left c.before.before.before.before.before.before) c.put_end.ensures)
 
-pub put-mesh-spec : {M : Type 1} → statement M
-put-mesh-spec =
+pub put_mesh_spec : {M : Type 1} → statement M
+put_mesh_spec =
     tie.close
     (tie.spec
-    put-two-requires
-    put-four-requires
-    put-four-requires-2
-    put-end-requires
-    same_length
+    put_two-second-requires
+    put_four-third-requires
+    put_four-last-requires
+    put_end-requires
+    shape_of-out
     returns)

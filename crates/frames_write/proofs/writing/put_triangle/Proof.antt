@@ -9,7 +9,6 @@ use Rattle.frames_write.proofs.writing.put_triangle.Statement.{statement}
 use Rattle.frames_write.proofs.writing.put_triangle.Tie as tie
 
 -- ---- what is left to put
-
 abbrev Still : tie.Start → List (List ℕ) → ℕ → List ℕ → Type 0
 Still s = Left (triangle_line s.args.list.now s.args.k) s.args.out.now s.args.place
 
@@ -17,110 +16,106 @@ Still s = Left (triangle_line s.args.list.now s.args.k) s.args.out.now s.args.pl
 abbrev corner : tie.Start → ℕ → List ℕ
 corner s i = four_digits (at s.args.list.now i)
 
-abbrev start : tie.After-put-two-arg → tie.Start
+abbrev start : tie.After-put_two-arg-1 → tie.Start
 start c = c.before.before.before
 
 -- all but the kind
-four-left : (c : tie.After-put-two)
-    → let s = start c.before in
-    let k = s.args.k in
-    Still s (corner s (3 * k) ∷ corner s (3 * k + 1) ∷ corner s (3 * k + 2) ∷ (10 ∷ []) ∷ [])
-    c.put_two.result c.put_two.new.0
-four-left c = left-more (left-all _ (triangle_line-parts _ _) (start c.before).requires.room) c.put_two.ensures
+four-left : (c : tie.After-put_two-second)
+    → let k = c.args.k in
+    Still (start c.before) (corner (start c.before) (3 * k) ∷ corner (start c.before) (3 * k + 1) ∷ corner (start c.before) (3 * k + 2) ∷ (10 ∷ []) ∷ [])
+    c.put_two-second.result c.put_two-second.new.out
+four-left c = left-more (left-all _ (triangle_line-parts _ _) (start c.before).requires.room) c.put_two-second.ensures
 
-abbrev second : tie.After-at → tie.After-put-two
+abbrev second : tie.After-at → tie.After-put_two-second
 second c = c.before.before.before.before
 
 -- two corners and the end
-three-left : (c : tie.After-put-four)
+three-left : (c : tie.After-put_four-third)
     → let s = start (second c.before).before in
     let k = s.args.k in
-    Still s (corner s (3 * k + 1) ∷ corner s (3 * k + 2) ∷ (10 ∷ []) ∷ []) c.put_four.result c.put_four.new.0
-three-left c = left-more (four-left (second c.before)) (rw c.before.at.ensures at c.put_four.ensures)
+    Still s (corner s (3 * k + 1) ∷ corner s (3 * k + 2) ∷ (10 ∷ []) ∷ []) c.put_four-third.result c.put_four-third.new.out
+three-left c = left-more (four-left (second c.before)) (rw c.at.ensures at c.put_four-third.ensures)
 
-abbrev third : tie.After-at2 → tie.After-put-four
+abbrev third : tie.After-at-2 → tie.After-put_four-third
 third c = c.before.before.before.before
 
 -- one corner and the end
-two-left : (c : tie.After-put-four2)
+two-left : (c : tie.After-put_four-fourth)
     → let s = start (second (third c.before).before).before in
-    Still s (corner s (3 * s.args.k + 2) ∷ (10 ∷ []) ∷ []) c.put-four2.result c.put-four2.new.0
-two-left c = left-more (three-left (third c.before)) (rw c.before.at2.ensures at c.put-four2.ensures)
+    Still s (corner s (3 * s.args.k + 2) ∷ (10 ∷ []) ∷ []) c.put_four-fourth.result c.put_four-fourth.new.out
+two-left c = left-more (three-left (third c.before)) (rw c.at-2.ensures at c.put_four-fourth.ensures)
 
-abbrev fourth : tie.After-at3 → tie.After-put-four2
+abbrev fourth : tie.After-at-3 → tie.After-put_four-fourth
 fourth c = c.before.before.before.before
 
 -- the end
-one_left : (c : tie.After-put-four3)
+one_left : (c : tie.After-put_four-last)
     → Still (start (second (third (fourth c.before).before).before).before) ((10 ∷ []) ∷ [])
-    c.put-four3.result c.put-four3.new.0
-one_left c = left-more (two-left (fourth c.before)) (rw c.before.at3.ensures at c.put-four3.ensures)
+    c.put_four-last.result c.put_four-last.new.out
+one_left c = left-more (two-left (fourth c.before)) (rw c.at-3.ensures at c.put_four-last.ensures)
 
 -- ---- the answers
+put_two-second-requires : tie.Need-put_two-second-requires
+put_two-second-requires c κs = left-room (left-all _ (triangle_line-parts _ _) (start c).requires.room)
 
-put-two-requires : tie.Need-put-two-requires
-put-two-requires c κs = left-room (left-all _ (triangle_line-parts _ _) (start c).requires.room)
-
-mul_at : tie.Need-overflow-mul-at
-mul_at c = search rules
+overflow_mul-k : tie.Need-overflow_mul-k
+overflow_mul-k c = search rules
 
 at-requires : tie.Need-at-requires
 at-requires c κs = search rules
 
-put-four-requires : tie.Need-put-four-requires
-put-four-requires c κs = rw c.at.ensures (left-room (four-left (second c)))
+put_four-third-requires : tie.Need-put_four-third-requires
+put_four-third-requires c κs = rw c.at.ensures (left-room (four-left (second c)))
 
-mul-at-2 : tie.Need-overflow-mul-at-2
-mul-at-2 c = search rules
+overflow_mul-k-2 : tie.Need-overflow_mul-k-2
+overflow_mul-k-2 c = search rules
 
-add_at : tie.Need-overflow-add-at
-add_at c = search rules
+overflow_add-k : tie.Need-overflow_add-k
+overflow_add-k c = search rules
 
 at-requires-2 : tie.Need-at-requires-2
 at-requires-2 c κs = search rules
 
-put-four-requires-2 : tie.Need-put-four-requires-2
-put-four-requires-2 c κs = rw c.at2.ensures (left-room (three-left (third c)))
+put_four-fourth-requires : tie.Need-put_four-fourth-requires
+put_four-fourth-requires c κs = rw c.at-2.ensures (left-room (three-left (third c)))
 
-mul-at-3 : tie.Need-overflow-mul-at-3
-mul-at-3 c = search rules
+overflow_mul-k-3 : tie.Need-overflow_mul-k-3
+overflow_mul-k-3 c = search rules
 
-add-at-2 : tie.Need-overflow-add-at-2
-add-at-2 c = search rules
+overflow_add-k-2 : tie.Need-overflow_add-k-2
+overflow_add-k-2 c = search rules
 
 at-requires-3 : tie.Need-at-requires-3
 at-requires-3 c κs = search rules
 
-put-four-requires-3 : tie.Need-put-four-requires-3
-put-four-requires-3 c κs = rw c.at3.ensures (left-room (two-left (fourth c)))
+put_four-last-requires : tie.Need-put_four-last-requires
+put_four-last-requires c κs = rw c.at-3.ensures (left-room (two-left (fourth c)))
 
-put-end-requires : tie.Need-put-end-requires
-put-end-requires c κs = left-room (one_left c.before.before.before)
+put_end-requires : tie.Need-put_end-requires
+put_end-requires c κs = left-room (one_left c.before.before.before)
 
-same_length : tie.Need-same-length
-same_length c = search rules
+shape_of-out : tie.Need-shape_of-out
+shape_of-out c = search rules
 
 returns : tie.Need-returns
-returns c =
-    let e = c.before.before in
-    left-none (left-more (one_left e.before.before.before.before) e.put-end.ensures)
+returns c = left-none (left-more (one_left c.before.before.before.before.before.before) c.put_end.ensures)
 
-pub put-triangle-spec : {M : Type 1} → statement M
-put-triangle-spec =
+pub put_triangle_spec : {M : Type 1} → statement M
+put_triangle_spec =
     tie.close
     (tie.spec
-    put-two-requires
-    mul_at
+    put_two-second-requires
+    overflow_mul-k
     at-requires
-    put-four-requires
-    mul-at-2
-    add_at
+    put_four-third-requires
+    overflow_mul-k-2
+    overflow_add-k
     at-requires-2
-    put-four-requires-2
-    mul-at-3
-    add-at-2
+    put_four-fourth-requires
+    overflow_mul-k-3
+    overflow_add-k-2
     at-requires-3
-    put-four-requires-3
-    put-end-requires
-    same_length
+    put_four-last-requires
+    put_end-requires
+    shape_of-out
     returns)

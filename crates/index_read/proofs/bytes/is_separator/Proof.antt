@@ -27,14 +27,14 @@ unfolding separator
 separated byte p q r = cc (regrouped (eqb byte 32) (eqb byte 9) (eqb byte 13) (eqb byte 10) (eqb byte 44))
 
 -- as they are made
-separates : (c : tie.Joined3)
-    → let byte = c.before.before.before.args.byte in
-    separator byte ≡ c.if3.if4 || eqb byte 44
+separates : (c : tie.Joined-byte-eq13)
+    → let byte = c.args.byte in
+    separator byte ≡ c.if-byte-eq13.if4 || eqb byte 44
 separates c =
-    separated c.before.before.before.args.byte
-    (either c.before.before.if1.branch (λ w. eq-eqb _ _ w.taken) (λ w. ne_eqb _ _ w.left))
-    (either c.before.if2.branch (λ w. w.taken) (λ w. w.left))
-    (either c.if3.branch (λ w. w.taken) (λ w. w.left))
+    separated c.args.byte
+    (either c.if-byte-eq32.branch (λ w. eq-eqb _ _ w.taken) (λ w. ne_eqb _ _ w.left))
+    (either c.if-byte-eq9.branch (λ w. w.taken) (λ w. w.left))
+    (either c.if-byte-eq13.branch (λ w. w.taken) (λ w. w.left))
 
 -- where one of the first four holds, the last is not made
 one-of-four : (byte : ℕ) {four : Bool} → separator byte ≡ four || eqb byte 44 → four ≡ true → four ≡ separator byte
@@ -45,11 +45,15 @@ the_last : (byte : ℕ) {four : Bool} → separator byte ≡ four || eqb byte 44
     → eqb byte 44 ≡ separator byte
 the_last byte e h = cc
 
-returns : tie.Need-returns
-returns c = one-of-four _ (separates c.before) c.if4.true
+returns-then-byte-eq10 : tie.Need-returns-then-byte-eq10
+returns-then-byte-eq10 c = one-of-four _ (separates c.before) c.if-byte-eq10.true
 
-returns-2 : tie.Need-returns-2
-returns-2 c = the_last _ (separates c.before) c.if4.false
+returns-else-byte-eq10 : tie.Need-returns-else-byte-eq10
+returns-else-byte-eq10 c = the_last _ (separates c.before) c.if-byte-eq10.false
 
-pub is-separator-spec : {M : Type 1} → statement M
-is-separator-spec = tie.close (tie.spec returns returns-2)
+pub is_separator_spec : {M : Type 1} → statement M
+is_separator_spec =
+    tie.close
+    (tie.spec
+    returns-then-byte-eq10
+    returns-else-byte-eq10)

@@ -13,55 +13,48 @@ use Rattle.index_read.proofs.call.read_faces.Statement.{statement}
 use Rattle.index_read.proofs.call.read_faces.Tie as tie
 
 -- the number is that of all rows
-judged : (c : tie.After-judge-size-to-read)
-    → let a = c.before.before.before.args in
-    Judged (read_index_rules a.vertices a.text.now (length a.out.now)) c.judge-size-to-read.result 0
-judged c = right-judged c.before.before.before.requires _ _ c.judge-size-to-read.ensures
+judged : (c : tie.After-judge_size_to_read-number)
+    → let a = c.args in
+    Judged (read_index_rules a.vertices a.text.now (length a.out.now)) c.judge_size_to_read-number.result 0
+judged c = right-judged c.requires _ _ c.judge_size_to_read-number.ensures
 
 -- where it is 0, they are passed
-passed : (c : tie.Else1)
-    → let a = c.before.before.before.before.args in
+passed : (c : tie.Else-number-ne0)
+    → let a = c.args in
     Passed (read_index_rules a.vertices a.text.now (length a.out.now))
-passed c = judged-passed (judged c.before) c.if1.false (omega arith)
+passed c = judged-passed (judged c.before) c.if-number-ne0.false (omega arith)
 
 -- ---- the answers
+judge_size_to_read-number-requires : tie.Need-judge_size_to_read-number-requires
+judge_size_to_read-number-requires c κs = search rules
 
-judge-size-to-read-requires : tie.Need-judge-size-to-read-requires
-judge-size-to-read-requires c κs = search rules
+refused_frames-requires : tie.Need-refused_frames-requires
+refused_frames-requires c κs = search rules
 
-refused-frames-requires : tie.Need-refused-frames-requires
-refused-frames-requires c κs = search rules
+returns-then-number-ne0 : tie.Need-returns-then-number-ne0
+returns-then-number-ne0 c = refuses _ 0 (judged-refused (judged c.before.before) c.if-number-ne0.true) c.refused_frames.ensures refl
+
+write_corners-requires : tie.Need-write_corners-requires
+write_corners-requires c κs = corners-lent c.requires _ _ (passed c.before)
+
+accepted_frames-requires : tie.Need-accepted_frames-requires
+accepted_frames-requires c κs = search rules
+
+shape_of-out : tie.Need-shape_of-out
+shape_of-out c = search rules
 
 returns : tie.Need-returns
-returns c =
-    let t = c.before in
-    refuses _ 0 (judged-refused (judged t.before) t.if1.true) c.refused-frames.ensures refl
+returns c = right-read c.requires _ (passed c.before.before.before.before.before) c.write_corners.ensures
+    c.accepted_frames.ensures
 
-write-corners-requires : tie.Need-write-corners-requires
-write-corners-requires c κs =
-    corners-lent c.before.before.before.before.before.requires _ _ (passed c.before)
-
-accepted-frames-requires : tie.Need-accepted-frames-requires
-accepted-frames-requires c κs = search rules
-
-same_length : tie.Need-same-length
-same_length c = search rules
-
-returns-2 : tie.Need-returns-2
-returns-2 c =
-    let w = c.before.before.before in
-    let p = w.before.before in
-    right-read p.before.before.before.before.requires _ (passed p) w.write-corners.ensures
-    c.accepted-frames.ensures
-
-pub read-faces-spec : {M : Type 1} → statement M
-read-faces-spec =
+pub read_faces_spec : {M : Type 1} → statement M
+read_faces_spec =
     tie.close
     (tie.spec
-    judge-size-to-read-requires
-    refused-frames-requires
-    returns
-    write-corners-requires
-    accepted-frames-requires
-    same_length
-    returns-2)
+    judge_size_to_read-number-requires
+    refused_frames-requires
+    returns-then-number-ne0
+    write_corners-requires
+    accepted_frames-requires
+    shape_of-out
+    returns)

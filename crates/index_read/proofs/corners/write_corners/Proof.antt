@@ -70,106 +70,92 @@ module _ {text out₀ out : List ℕ} {at corners face : ℕ} (I : Turn text out
           let same = ap length (walk-list I.walk l I.lent.list I.lent.right) in
           I.stored ∙ sets-eq I.so_far out₀ 0 (omega (arith, same, I.lent.room)) ∙ rw zero-add
 
-abbrev invariant-loop : tie.invariant-loop
-invariant-loop text out₀ at₀ corners₀ face₀ out at corners face = Turn text out₀ out at corners face
+abbrev invariant-loop-at : tie.invariant-loop-at
+invariant-loop-at text out₀ at₀ corners₀ face₀ out at corners face = Turn text out₀ out at corners face
 
-abbrev decreases-loop : tie.decreases-loop
-decreases-loop text out₀ at₀ corners₀ face₀ out at corners face = length text - at
+abbrev decreases-loop-at : tie.decreases-loop-at
+decreases-loop-at text out₀ at₀ corners₀ face₀ out at corners face = length text - at
 
 -- the turn of the loop in which a run is met
-abbrev turn : tie.After-take-step invariant-loop decreases-loop → tie.At-loop invariant-loop decreases-loop
+abbrev turn : tie.After-take_step invariant-loop-at decreases-loop-at → tie.At-loop-at invariant-loop-at decreases-loop-at
 turn c = c.before.before.before
 
 -- that run
-met : (c : tie.After-take-step invariant-loop decreases-loop)
-    → let l = (turn c).loop in
-    Met (turn c).before.before.before.before.args.text.now l.inv.so_far l.at l.corners l.face
-    c.before.take-run.result c.take_step.result
+met : (c : tie.After-take_step invariant-loop-at decreases-loop-at)
+    → let l = (turn c).loop-at in
+    Met (turn c).args.text.now l.inv.so_far l.at l.corners l.face
+    c.take_run-run.result c.take_step.result
 met c = record {
-  walk = (turn c).loop.invariant.walk;
-  inside = c.before.before.loop-test.true;
-  taken = c.before.take-run.ensures;
+  walk = (turn c).loop-at.invariant.walk;
+  inside = c.loop-at-test.true;
+  taken = c.take_run-run.ensures;
   stepped = c.take_step.ensures;
 }
 
 -- the run after which the next one is looked for
-abbrev judged : tie.After-slice-known2 invariant-loop decreases-loop → tie.After-more invariant-loop decreases-loop
+abbrev judged : tie.After-slice_known-in-loop-at-1 invariant-loop-at decreases-loop-at → tie.In-Holds-2 invariant-loop-at decreases-loop-at
 judged c = c.before.before.before.before.before
 
 -- ---- the answers
+next_run-at-requires : tie.Need-next_run-at-requires invariant-loop-at decreases-loop-at
+next_run-at-requires c κs = omega arith
 
-next-run-requires : tie.Need-next-run-requires invariant-loop decreases-loop
-next-run-requires c κs = omega arith
+loop-at-init : tie.Need-loop-at-init invariant-loop-at decreases-loop-at
+loop-at-init c = begun c.requires c.next_run-at.ensures
 
-loop-holds : tie.Need-loop-init invariant-loop decreases-loop
-loop-holds c = begun c.before.before.before.requires c.next-run.ensures
+take_run-run-requires : tie.Need-take_run-run-requires invariant-loop-at decreases-loop-at
+take_run-run-requires c κs = walk-lent c.loop-at.invariant.walk c.loop-at-test.true
 
-take-run-requires : tie.Need-take-run-requires invariant-loop decreases-loop
-take-run-requires c κs = walk-lent c.before.loop.invariant.walk c.loop-test.true
+take_step-requires : tie.Need-take_step-requires invariant-loop-at decreases-loop-at
+take_step-requires c κs = walk-fits c.loop-at.invariant.walk c.loop-at-test.true (omega arith)
 
-take-step-requires : tie.Need-take-step-requires invariant-loop decreases-loop
-take-step-requires c κs = walk-fits c.before.before.loop.invariant.walk c.before.loop-test.true (omega arith)
+enum_known-more : tie.Need-enum_known-more invariant-loop-at decreases-loop-at
+enum_known-more c = search rules
 
-enum-known-more : tie.Need-enum-known-more invariant-loop decreases-loop
-enum-known-more c = search rules
+enum_told-1 : tie.Need-enum_told-1 invariant-loop-at decreases-loop-at
+enum_told-1 c = search rules
 
-enum_told : tie.Need-enum-told invariant-loop decreases-loop
-enum_told c = search rules
+shape_of-out-in_default : tie.Need-shape_of-out-in_default invariant-loop-at decreases-loop-at
+shape_of-out-in_default c = kept (turn c.before).loop-at.invariant
 
-same_length : tie.Need-same-length invariant-loop decreases-loop
-same_length c = kept (turn c.before.before).loop.inv
+returns-in_default : tie.Need-returns-in_default invariant-loop-at decreases-loop-at
+returns-in_default c = absurd (no-fault (turn c.before).loop-at.invariant (met c.before) c.in_default.is)
 
-returns : tie.Need-returns invariant-loop decreases-loop
-returns c =
-    let t = c.before.before in
-    absurd (no-fault (turn t).loop.invariant (met t) c.enum_told.given.1)
+write_corner-requires : tie.Need-write_corner-requires invariant-loop-at decreases-loop-at
+write_corner-requires c κs = corner-lent (turn c.before.before).loop-at.invariant (met c.before.before) c.in-Holds.is (omega arith)
 
-write-corner-requires : tie.Need-write-corner-requires invariant-loop decreases-loop
-write-corner-requires c κs =
-    let m = c.before.before in
-    let t = m.before.before in
-    corner-lent (turn t).loop.invariant (met t) m.more.given.1 (omega arith)
+next_run-at-requires-in-loop-at : tie.Need-next_run-at-requires-in-loop-at invariant-loop-at decreases-loop-at
+next_run-at-requires-in-loop-at c κs = met-end (met c.before.before.before.before.before) c.in-Holds.is
 
-next-run-requires-2 : tie.Need-next-run-requires-2 invariant-loop decreases-loop
-next-run-requires-2 c κs =
-    let m = judged c in
-    met-end (met m.before.before) m.more.given.1
+loop-at-smaller : tie.Need-loop-at-smaller invariant-loop-at decreases-loop-at
+loop-at-smaller c = met_less (met c.before.before.before.before.before.before) c.in-Holds.is c.next_run-at-in-loop-at.ensures
 
-loop-less : tie.Need-loop-smaller invariant-loop decreases-loop
-loop-less c =
-    let m = judged c.before in
-    met_less (met m.before.before) m.more.given.1 c.next-run2.ensures
+loop-at-preserved : tie.Need-loop-at-preserved invariant-loop-at decreases-loop-at
+loop-at-preserved c = turned (turn c.before.before.before.before.before.before).loop-at.invariant (met c.before.before.before.before.before.before) c.in-Holds.is c.write_corner.ensures c.next_run-at-in-loop-at.ensures
 
-loop-again : tie.Need-loop-preserved invariant-loop decreases-loop
-loop-again c =
-    let m = judged c.before in
-    let t = m.before.before in
-    let w = c.before.before.before in
-    turned (turn t).loop.inv (met t) m.more.given.1 w.write-corner.ensures c.next-run2.ensures
+shape_of-out : tie.Need-shape_of-out invariant-loop-at decreases-loop-at
+shape_of-out c = kept c.loop-at.invariant
 
-same-length-2 : tie.Need-same-length-2 invariant-loop decreases-loop
-same-length-2 c = kept c.before.loop.invariant
+returns : tie.Need-returns invariant-loop-at decreases-loop-at
+returns c = finished c.loop-at.invariant c.loop-at-test.false
 
-returns-2 : tie.Need-returns-2 invariant-loop decreases-loop
-returns-2 c = finished c.before.loop.invariant c.loop-test.false
-
-pub write-corners-spec : {M : Type 1} → statement M
-write-corners-spec =
+pub write_corners_spec : {M : Type 1} → statement M
+write_corners_spec =
     tie.close
     (tie.spec
-    invariant-loop
-    decreases-loop
-    next-run-requires
-    loop-holds
-    take-run-requires
-    take-step-requires
-    enum-known-more
-    enum_told
-    same_length
-    returns
-    write-corner-requires
-    next-run-requires-2
-    loop-less
-    loop-again
-    same-length-2
-    returns-2)
+    invariant-loop-at
+    decreases-loop-at
+    next_run-at-requires
+    loop-at-init
+    take_run-run-requires
+    take_step-requires
+    enum_known-more
+    enum_told-1
+    shape_of-out-in_default
+    returns-in_default
+    write_corner-requires
+    next_run-at-requires-in-loop-at
+    loop-at-smaller
+    loop-at-preserved
+    shape_of-out
+    returns)

@@ -18,94 +18,84 @@ record Turn (text : List ℕ) (at corners face : ℕ) : Type 0 where
   so_far : List ℕ
   walk : Walk text so_far at corners face
 
-abbrev invariant-loop : tie.invariant-loop
-invariant-loop text at₀ corners₀ face₀ at corners face = Turn text at corners face
+abbrev invariant-loop-at : tie.invariant-loop-at
+invariant-loop-at text at₀ corners₀ face₀ at corners face = Turn text at corners face
 
-abbrev decreases-loop : tie.decreases-loop
-decreases-loop text at₀ corners₀ face₀ at corners face = length text - at
+abbrev decreases-loop-at : tie.decreases-loop-at
+decreases-loop-at text at₀ corners₀ face₀ at corners face = length text - at
 
 -- the run that is met in a turn of the loop
-met : (c : tie.After-take-step invariant-loop decreases-loop)
-    → let t = c.before.before.before in
-    let l = t.loop in
-    Met t.before.before.before.args.text.now l.invariant.so_far l.at l.corners l.face
-    c.before.take-run.result c.take_step.result
+met : (c : tie.After-take_step invariant-loop-at decreases-loop-at)
+    → let l = c.loop-at in
+    Met c.args.text.now l.invariant.so_far l.at l.corners l.face
+    c.take_run.result c.take_step.result
 met c = record {
-  walk = c.before.before.before.loop.invariant.walk;
-  inside = c.before.before.loop-test.true;
-  taken = c.before.take-run.ensures;
+  walk = c.loop-at.invariant.walk;
+  inside = c.loop-at-test.true;
+  taken = c.take_run.ensures;
   stepped = c.take_step.ensures;
 }
 
 -- ---- the answers
+next_run-at-requires : tie.Need-next_run-at-requires invariant-loop-at decreases-loop-at
+next_run-at-requires c κs = omega arith
 
-next-run-requires : tie.Need-next-run-requires invariant-loop decreases-loop
-next-run-requires c κs = omega arith
+loop-at-init : tie.Need-loop-at-init invariant-loop-at decreases-loop-at
+loop-at-init c = record { so_far = _; walk = walk-begun c.next_run-at.ensures }
 
-loop-holds : tie.Need-loop-init invariant-loop decreases-loop
-loop-holds c = record { so_far = _; walk = walk-begun c.next-run.ensures }
+take_run-requires : tie.Need-take_run-requires invariant-loop-at decreases-loop-at
+take_run-requires c κs = walk-lent c.loop-at.invariant.walk c.loop-at-test.true
 
-take-run-requires : tie.Need-take-run-requires invariant-loop decreases-loop
-take-run-requires c κs = walk-lent c.before.loop.invariant.walk c.loop-test.true
+take_step-requires : tie.Need-take_step-requires invariant-loop-at decreases-loop-at
+take_step-requires c κs = walk-fits c.loop-at.invariant.walk c.loop-at-test.true (omega arith)
 
-take-step-requires : tie.Need-take-step-requires invariant-loop decreases-loop
-take-step-requires c κs = walk-fits c.before.before.loop.invariant.walk c.before.loop-test.true (omega arith)
+enum_known-more : tie.Need-enum_known-more invariant-loop-at decreases-loop-at
+enum_known-more c = search rules
 
-enum-known-more : tie.Need-enum-known-more invariant-loop decreases-loop
-enum-known-more c = search rules
+enum_told-1 : tie.Need-enum_told-1 invariant-loop-at decreases-loop-at
+enum_told-1 c = search rules
 
-enum_told : tie.Need-enum-told invariant-loop decreases-loop
-enum_told c = search rules
+returns-in_default : tie.Need-returns-in_default invariant-loop-at decreases-loop-at
+returns-in_default c = at_fault (met-fault (met c.before) c.in_default.is)
 
-returns : tie.Need-returns invariant-loop decreases-loop
-returns c = at_fault (met-fault (met c.before.before) c.enum_told.given.1)
+next_run-at-requires-in-loop-at : tie.Need-next_run-at-requires-in-loop-at invariant-loop-at decreases-loop-at
+next_run-at-requires-in-loop-at c κs = met-end (met c.before) c.in-Holds.is
 
-next-run-requires-2 : tie.Need-next-run-requires-2 invariant-loop decreases-loop
-next-run-requires-2 c κs = met-end (met c.before.before.before) c.before.more.given.1
+loop-at-smaller : tie.Need-loop-at-smaller invariant-loop-at decreases-loop-at
+loop-at-smaller c = met_less (met c.before.before) c.in-Holds.is c.next_run-at-in-loop-at.ensures
 
-loop-less : tie.Need-loop-smaller invariant-loop decreases-loop
-loop-less c =
-    let m = c.before.before in
-    met_less (met m.before.before) m.more.given.1 c.next-run2.ensures
+loop-at-preserved : tie.Need-loop-at-preserved invariant-loop-at decreases-loop-at
+loop-at-preserved c = record { so_far = _; walk = met_turned (met c.before.before) c.in-Holds.is c.next_run-at-in-loop-at.ensures }
 
-loop-again : tie.Need-loop-preserved invariant-loop decreases-loop
-loop-again c =
-    let m = c.before.before in
-    record { so_far = _; walk = met_turned (met m.before.before) m.more.given.1 c.next-run2.ensures }
-
-returns-2 : tie.Need-returns-2 invariant-loop decreases-loop
-returns-2 c =
-    let l = c.before in
-    let missing = walk-missing l.before.loop.invariant.walk l.loop-test.false in
-    elim c.if1.branch [
+returns-then-face-eq1 : tie.Need-returns-then-face-eq1 invariant-loop-at decreases-loop-at
+returns-then-face-eq1 c = let missing = walk-missing c.loop-at.invariant.walk c.loop-at-test.false in
+    elim c.then-face-eq1.branch [
       | inl one ↦ at_fault (missing (omega (arith, one.taken)) (omega (arith, one.taken)))
       | inr (_, two) ↦
-          let e = eqb-true l.before.loop.face 2 two.taken in
+          let e = eqb-true c.loop-at.face 2 two.taken in
           at_fault (missing (omega (arith, e)) (omega (arith, e)))
     ]
 
-returns-3 : tie.Need-returns-3 invariant-loop decreases-loop
-returns-3 c =
-    let l = c.before.before in
-    let finished = walk-finished l.before.loop.invariant.walk l.loop-test.false in
-    let not-two = eqb-false l.before.loop.face 2 c.if2.false in
-    right (finished (omega (arith, c.before.if1.false)) not-two)
+returns : tie.Need-returns invariant-loop-at decreases-loop-at
+returns c = let finished = walk-finished c.loop-at.invariant.walk c.loop-at-test.false in
+    let not-two = eqb-false c.loop-at.face 2 c.if-face-eq2.false in
+    right (finished (omega (arith, c.if-face-eq1.false)) not-two)
 
-pub judge-text-spec : {M : Type 1} → statement M
-judge-text-spec =
+pub judge_text_spec : {M : Type 1} → statement M
+judge_text_spec =
     tie.close
     (tie.spec
-    invariant-loop
-    decreases-loop
-    next-run-requires
-    loop-holds
-    take-run-requires
-    take-step-requires
-    enum-known-more
-    enum_told
-    returns
-    next-run-requires-2
-    loop-less
-    loop-again
-    returns-2
-    returns-3)
+    invariant-loop-at
+    decreases-loop-at
+    next_run-at-requires
+    loop-at-init
+    take_run-requires
+    take_step-requires
+    enum_known-more
+    enum_told-1
+    returns-in_default
+    next_run-at-requires-in-loop-at
+    loop-at-smaller
+    loop-at-preserved
+    returns-then-face-eq1
+    returns)

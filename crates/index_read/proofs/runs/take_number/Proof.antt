@@ -75,92 +75,87 @@ module _ {text : List ℕ} {from at value : ℕ} (I : Turn text from at value) w
         ends = λ end f. let z : at ≡ end = cc in omega (arith, I.ends, ap length none);
       }
 
-abbrev invariant-loop : tie.invariant-loop
-invariant-loop text from at₀ value₀ at value = Turn text from at value
+abbrev invariant-loop-value : tie.invariant-loop-value
+invariant-loop-value text from at₀ value₀ at value = Turn text from at value
 
-abbrev decreases-loop : tie.decreases-loop
-decreases-loop text from at₀ value₀ at value = length text - at
+abbrev decreases-loop-value : tie.decreases-loop-value
+decreases-loop-value text from at₀ value₀ at value = length text - at
 
-loop-holds : tie.Need-loop-init invariant-loop decreases-loop
-loop-holds c = begun c.before.requires
+loop-value-init : tie.Need-loop-value-init invariant-loop-value decreases-loop-value
+loop-value-init c = begun c.requires
 
-digit-at-requires : tie.Need-digit-at-requires invariant-loop decreases-loop
-digit-at-requires c κs = search rules
+digit_at-requires : tie.Need-digit_at-requires invariant-loop-value decreases-loop-value
+digit_at-requires c κs = search rules
 
 -- a turn is made where a digit stands
-digit : (c : tie.Then1 invariant-loop decreases-loop)
-    → digit_at c.before.before.before.before.args.text.now c.before.before.loop.at ≡ true
-digit c = sym c.before.digit_at.ensures ∙ c.if1.true
+digit : (c : tie.In-loop-value invariant-loop-value decreases-loop-value)
+    → digit_at c.args.text.now c.loop-value.at ≡ true
+digit c = sym c.digit_at.ensures ∙ c.loop-value-test.true
 
 -- which is 48 to 57
-range : (c : tie.Then1 invariant-loop decreases-loop)
-    → let byte = mesh.at c.before.before.before.before.args.text.now c.before.before.loop.at in
+range : (c : tie.In-loop-value invariant-loop-value decreases-loop-value)
+    → let byte = mesh.at c.args.text.now c.loop-value.at in
     Digit byte
 range c = digit-range _ (digit-byte _ _ (digit c))
 
-mul-value : tie.Need-overflow-mul-value invariant-loop decreases-loop
-mul-value c = omega (arith, c.before.before.loop.invariant.small)
+overflow_mul-value : tie.Need-overflow_mul-value invariant-loop-value decreases-loop-value
+overflow_mul-value c = omega (arith, c.loop-value.invariant.small)
 
-shared-slice-read-value : tie.Need-shared-slice-read-value invariant-loop decreases-loop
-shared-slice-read-value c = digit-inside _ _ (digit c.before)
+bounds-text-at : tie.Need-bounds-text-at invariant-loop-value decreases-loop-value
+bounds-text-at c = digit-inside _ _ (digit c.before)
 
-sub-value : tie.Need-overflow-sub-value invariant-loop decreases-loop
-sub-value c = (range c.before).low
+overflow_sub-value : tie.Need-overflow_sub-value invariant-loop-value decreases-loop-value
+overflow_sub-value c = (range c.before).low
 
-cast-value : tie.Need-overflow-cast-value invariant-loop decreases-loop
-cast-value c = omega (arith, (range c.before).high)
+overflow_cast-value : tie.Need-overflow_cast-value invariant-loop-value decreases-loop-value
+overflow_cast-value c = omega (arith, (range c.before).high)
 
-add-value : tie.Need-overflow-add-value invariant-loop decreases-loop
-add-value c = omega (arith, (range c.before).high, c.before.before.before.loop.invariant.small)
+overflow_add-value : tie.Need-overflow_add-value invariant-loop-value decreases-loop-value
+overflow_add-value c = omega (arith, (range c.before).high, c.loop-value.invariant.small)
 
-returns : tie.Need-returns invariant-loop decreases-loop
-returns c =
-    large c.before.before.before.before.loop.invariant (digit c.before.before) (omega (arith, c.if2.true))
+returns-then-value-gt-CORNER : tie.Need-returns-then-value-gt-CORNER invariant-loop-value decreases-loop-value
+returns-then-value-gt-CORNER c = large c.loop-value.invariant (digit c.before.before) (omega (arith, c.if-value-gt-CORNER.true))
 
-add_at : tie.Need-overflow-add-at invariant-loop decreases-loop
-add_at c = omega (arith, digit-inside _ _ (digit c.before.before))
+overflow_add-at : tie.Need-overflow_add-at invariant-loop-value decreases-loop-value
+overflow_add-at c = omega (arith, digit-inside _ _ (digit c.before.before))
 
-loop-less : tie.Need-loop-smaller invariant-loop decreases-loop
-loop-less c = omega (arith, digit-inside _ _ (digit c.before.before))
+loop-value-smaller : tie.Need-loop-value-smaller invariant-loop-value decreases-loop-value
+loop-value-smaller c = omega (arith, digit-inside _ _ (digit c.before.before))
 
-loop-again : tie.Need-loop-preserved invariant-loop decreases-loop
-loop-again c =
-    turned c.before.before.before.before.loop.invariant (digit c.before.before) (omega (arith, c.if2.false))
+loop-value-preserved : tie.Need-loop-value-preserved invariant-loop-value decreases-loop-value
+loop-value-preserved c = turned c.loop-value.invariant (digit c.before.before) (omega (arith, c.if-value-gt-CORNER.false))
 
-goes-on-requires : tie.Need-goes-on-requires invariant-loop decreases-loop
-goes-on-requires c κs = search rules
+goes_on-requires : tie.Need-goes_on-requires invariant-loop-value decreases-loop-value
+goes_on-requires c κs = search rules
 
-returns-2 : tie.Need-returns-2 invariant-loop decreases-loop
-returns-2 c =
-    let ended = c.before.before in
-    other ended.before.before.loop.invariant (sym ended.before.digit_at.ensures ∙ ended.if1.false)
-    (sym c.before.goes_on.ensures ∙ c.if3.true)
+returns-then-goes_on : tie.Need-returns-then-goes_on invariant-loop-value decreases-loop-value
+returns-then-goes_on c = other c.loop-value.invariant (sym c.digit_at.ensures ∙ c.loop-value-test.false)
+    (sym c.goes_on.ensures ∙ c.if-goes_on.true)
 
-cast-t13 : tie.Need-overflow-cast-t13 invariant-loop decreases-loop
-cast-t13 c = omega (arith, c.before.before.before.before.loop.invariant.small)
+overflow_cast-result : tie.Need-overflow_cast-result invariant-loop-value decreases-loop-value
+overflow_cast-result c = omega (arith, c.loop-value.invariant.small)
 
-returns-3 : tie.Need-returns-3 invariant-loop decreases-loop
-returns-3 c =
-    finished c.before.before.before.before.loop.invariant (sym c.before.goes_on.ensures ∙ c.if3.false)
+returns : tie.Need-returns invariant-loop-value decreases-loop-value
+returns c = finished c.loop-value.invariant (sym c.goes_on.ensures ∙ c.if-goes_on.false)
 
-pub take-number-spec : {M : Type 1} → statement M
-take-number-spec =
+pub take_number_spec : {M : Type 1} → statement M
+take_number_spec =
     tie.close
     (tie.spec
-    invariant-loop
-    decreases-loop
-    loop-holds
-    digit-at-requires
-    mul-value
-    shared-slice-read-value
-    sub-value
-    cast-value
-    add-value
-    returns
-    add_at
-    loop-less
-    loop-again
-    goes-on-requires
-    returns-2
-    cast-t13
-    returns-3)
+    invariant-loop-value
+    decreases-loop-value
+    loop-value-init
+    digit_at-requires
+    overflow_mul-value
+    bounds-text-at
+    overflow_sub-value
+    overflow_cast-value
+    overflow_add-value
+    returns-then-value-gt-CORNER
+    overflow_add-at
+    loop-value-smaller
+    loop-value-preserved
+    goes_on-requires
+    returns-then-goes_on
+    overflow_cast-result
+    returns)

@@ -8,63 +8,56 @@ use Rattle.index_write.proofs.Judging.{sizes, sizes-countable, refuses-size, ref
 use Rattle.index_write.proofs.call.write_index.Statement.{statement}
 use Rattle.index_write.proofs.call.write_index.Tie as tie
 
-abbrev start : tie.Else1 → tie.Start
+abbrev start : tie.Else-number-ne0 → tie.Start
 start c = c.before.before.before.before
 
 -- past the first test, the numbers are passed
-passed : (c : tie.Else1) → Passed (sizes (start c).args.vertices (start c).args.list.now)
-passed c = judged-passed c.before.judge-size-to-write.ensures c.if1.false (omega arith)
+passed : (c : tie.Else-number-ne0) → Passed (sizes (start c).args.vertices (start c).args.list.now)
+passed c = judged-passed c.judge_size_to_write-number.ensures c.if-number-ne0.false (omega arith)
 
 -- ---- the answers
+judge_size_to_write-number-requires : tie.Need-judge_size_to_write-number-requires
+judge_size_to_write-number-requires c κs = search rules
 
-judge-size-to-write-requires : tie.Need-judge-size-to-write-requires
-judge-size-to-write-requires c κs = search rules
+refused_text-requires : tie.Need-refused_text-requires
+refused_text-requires c κs = search rules
 
-refused-text-requires : tie.Need-refused-text-requires
-refused-text-requires c κs = search rules
+returns-then-number-ne0 : tie.Need-returns-then-number-ne0
+returns-then-number-ne0 c = refuses-size c.judge_size_to_write-number.ensures c.if-number-ne0.true c.refused_text.ensures
+
+text_length-bytes-requires : tie.Need-text_length-bytes-requires
+text_length-bytes-requires c κs = sizes-countable (start c).args.vertices _ (passed c)
+
+refused_text-requires-then-out-bytes : tie.Need-refused_text-requires-then-out-bytes
+refused_text-requires-then-out-bytes c κs = search rules
+
+returns-then-out-bytes : tie.Need-returns-then-out-bytes
+returns-then-out-bytes c = refuses-room (passed c.before.before.before) c.text_length-bytes.ensures c.if-out-bytes.true c.refused_text-then-out-bytes.ensures
+
+write_faces-requires : tie.Need-write_faces-requires
+write_faces-requires c κs = search rules
+
+accepted_text-requires : tie.Need-accepted_text-requires
+accepted_text-requires c κs = search rules
+
+shape_of-out : tie.Need-shape_of-out
+shape_of-out c = search rules
 
 returns : tie.Need-returns
-returns c =
-    refuses-size c.before.before.judge-size-to-write.ensures c.before.if1.true c.refused-text.ensures
+returns c = accepts-room (passed c.before.before.before.before.before.before.before) (omega (arith, c.text_length-bytes.ensures)) (omega arith) c.accepted_text.ensures
+    c.write_faces.ensures
 
-text-length-requires : tie.Need-text-length-requires
-text-length-requires c κs = sizes-countable (start c).args.vertices _ (passed c)
-
-refused-text-requires-2 : tie.Need-refused-text-requires-2
-refused-text-requires-2 c κs = search rules
-
-returns-2 : tie.Need-returns-2
-returns-2 c =
-    let l = c.before.before in
-    refuses-room (passed l.before) l.text-length.ensures c.before.if2.true c.refused-text2.ensures
-
-write-faces-requires : tie.Need-write-faces-requires
-write-faces-requires c κs = search rules
-
-accepted-text-requires : tie.Need-accepted-text-requires
-accepted-text-requires c κs = search rules
-
-same_length : tie.Need-same-length
-same_length c = search rules
-
-returns-3 : tie.Need-returns-3
-returns-3 c =
-    let w = c.before.before.before in
-    let l = w.before.before.before in
-    accepts-room (passed l.before) (omega (arith, l.text-length.ensures)) (omega arith) c.accepted-text.ensures
-    w.write-faces.ensures
-
-pub write-index-spec : {M : Type 1} → statement M
-write-index-spec =
+pub write_index_spec : {M : Type 1} → statement M
+write_index_spec =
     tie.close
     (tie.spec
-    judge-size-to-write-requires
-    refused-text-requires
-    returns
-    text-length-requires
-    refused-text-requires-2
-    returns-2
-    write-faces-requires
-    accepted-text-requires
-    same_length
-    returns-3)
+    judge_size_to_write-number-requires
+    refused_text-requires
+    returns-then-number-ne0
+    text_length-bytes-requires
+    refused_text-requires-then-out-bytes
+    returns-then-out-bytes
+    write_faces-requires
+    accepted_text-requires
+    shape_of-out
+    returns)

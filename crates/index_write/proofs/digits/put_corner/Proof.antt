@@ -9,34 +9,38 @@ use Rattle.index_write.proofs.digits.put_corner.Statement.{statement}
 use Rattle.index_write.proofs.digits.put_corner.Tie as tie
 
 -- ---- what is left to put
-
-abbrev start : tie.After-put-number-arg → tie.Start
+abbrev start : tie.After-put_number-arg-1 → tie.Start
 start c = c.before.before
 
 -- the blank
-blank-left : (c : tie.After-put-number)
+blank-left : (c : tie.After-put_number-next)
     → let a = (start c.before).args in
-    Left (corner_text a.value) a.out.now a.place ((32 ∷ []) ∷ []) c.put-number.result
-    c.put-number.new.0
-blank-left c = left-more (left-all _ (corner_text-parts _) (start c.before).requires) c.put-number.ensures
+    Left (corner_text a.value) a.out.now a.place ((32 ∷ []) ∷ []) c.put_number-next.result
+    c.put_number-next.new.out
+blank-left c = left-more (left-all _ (corner_text-parts _) (start c.before).requires) c.put_number-next.ensures
 
 -- ---- the answers
+put_number-next-requires : tie.Need-put_number-next-requires
+put_number-next-requires c κs = left-room (left-all _ (corner_text-parts _) (start c).requires)
 
-put-number-requires : tie.Need-put-number-requires
-put-number-requires c κs = left-room (left-all _ (corner_text-parts _) (start c).requires)
+bounds-out-next : tie.Need-bounds-out-next
+bounds-out-next c = omega (arith, (left-room (blank-left c.before.before)).fits)
 
-slice-write-out : tie.Need-slice-write-out
-slice-write-out c = omega (arith, (left-room (blank-left c.before.before)).fits)
+overflow_add-result : tie.Need-overflow_add-result
+overflow_add-result c = omega (arith, (left-room (blank-left c.before.before)).fits)
 
-add-result : tie.Need-overflow-add-result
-add-result c = omega (arith, (left-room (blank-left c.before.before)).fits)
-
-same_length : tie.Need-same-length
-same_length c = search rules
+shape_of-out : tie.Need-shape_of-out
+shape_of-out c = search rules
 
 returns : tie.Need-returns
 returns c = left-none (left-more (blank-left c.before.before) (put_one _ _ _))
 
-pub put-corner-spec : {M : Type 1} → statement M
-put-corner-spec =
-    tie.close (tie.spec put-number-requires slice-write-out add-result same_length returns)
+pub put_corner_spec : {M : Type 1} → statement M
+put_corner_spec =
+    tie.close
+    (tie.spec
+    put_number-next-requires
+    bounds-out-next
+    overflow_add-result
+    shape_of-out
+    returns)

@@ -9,29 +9,34 @@ use Rattle.index_write.proofs.faces.put_gap.Statement.{statement}
 use Rattle.index_write.proofs.faces.put_gap.Tie as tie
 
 -- ---- what the test tells
+first : (c : tie.Then-k-eq0) → c.args.k ≡ 0
+first c = omega (arith, c.if-k-eq0.true)
 
-first : (c : tie.Then1) → c.before.args.k ≡ 0
-first c = omega (arith, c.if1.true)
-
-later : (c : tie.Else1) → c.before.args.k ≢ 0
-later c e = omega (arith, c.if1.false)
+later : (c : tie.Else-k-eq0) → c.args.k ≢ 0
+later c e = omega (arith, c.if-k-eq0.false)
 
 -- ---- the answers
+returns-then-k-eq0 : tie.Need-returns-then-k-eq0
+returns-then-k-eq0 c = rw (gap-first _ (first c)) (put-none _ _)
+
+bounds-out-place : tie.Need-bounds-out-place
+bounds-out-place c = omega (arith, rw (gap-later _ (later c)) at c.requires.fits)
+
+overflow_add-result : tie.Need-overflow_add-result
+overflow_add-result c = search rules
+
+shape_of-out : tie.Need-shape_of-out
+shape_of-out c = search rules
 
 returns : tie.Need-returns
-returns c = rw (gap-first _ (first c)) (put-none _ _)
+returns c = rw (gap-later _ (later c)) (put_one _ _ _)
 
-slice-write-out : tie.Need-slice-write-out
-slice-write-out c = omega (arith, rw (gap-later _ (later c)) at c.before.requires.fits)
-
-add-result : tie.Need-overflow-add-result
-add-result c = search rules
-
-same_length : tie.Need-same-length
-same_length c = search rules
-
-returns-2 : tie.Need-returns-2
-returns-2 c = rw (gap-later _ (later c)) (put_one _ _ _)
-
-pub put-gap-spec : {M : Type 1} → statement M
-put-gap-spec = tie.close (tie.spec returns slice-write-out add-result same_length returns-2)
+pub put_gap_spec : {M : Type 1} → statement M
+put_gap_spec =
+    tie.close
+    (tie.spec
+    returns-then-k-eq0
+    bounds-out-place
+    overflow_add-result
+    shape_of-out
+    returns)

@@ -9,105 +9,98 @@ use Rattle.theory.proofs.Index.{face_text-counted, face_text-length}
 use Rattle.index_write.proofs.length.face_length.Statement.{statement}
 use Rattle.index_write.proofs.length.face_length.Tie as tie
 
-abbrev start : tie.After-gap-length → tie.Start
+abbrev start : tie.After-gap_length → tie.Start
 start c = c.before.before.before.before.before.before.before.before
 
 -- the sum is the length of the face's text
-counted : (c : tie.After-gap-length)
-    → let third = c.before in
-    let second = third.before.before in
-    let first = second.before.before in
-    c.gap_length.result + first.digits-needed.result + second.digits-needed2.result
-    + third.digits-needed3.result + 5
+counted : (c : tie.After-gap_length)
+    → c.gap_length.result + c.digits_needed-first.result + c.digits_needed-second.result
+    + c.digits_needed-third.result + 5
     ≡ length (face_text (start c).args.list.now (start c).args.k)
 counted c =
-    let third = c.before in
-    let second = third.before.before in
-    let first = second.before.before in
     omega (
       arith,
       face_text-counted (start c).args.list.now (start c).args.k,
       c.gap_length.ensures,
-      rw first.before.at.ensures at first.digits-needed.ensures,
-      rw second.before.at2.ensures at second.digits-needed2.ensures,
-      rw third.before.at3.ensures at third.digits-needed3.ensures,
+      rw c.at.ensures at c.digits_needed-first.ensures,
+      rw c.at-2.ensures at c.digits_needed-second.ensures,
+      rw c.at-3.ensures at c.digits_needed-third.ensures,
     )
 
 -- so it is small
-few : (c : tie.After-gap-length) → length (face_text (start c).args.list.now (start c).args.k) ≤ 21
+few : (c : tie.After-gap_length) → length (face_text (start c).args.list.now (start c).args.k) ≤ 21
 few c = face_text-length (start c).args.list.now (start c).args.k
 
 -- ---- the answers
-
-mul_at : tie.Need-overflow-mul-at
-mul_at c = search rules
+overflow_mul-k : tie.Need-overflow_mul-k
+overflow_mul-k c = search rules
 
 at-requires : tie.Need-at-requires
 at-requires c κs = search rules
 
-digits-needed-requires : tie.Need-digits-needed-requires
-digits-needed-requires c κs = search rules
+digits_needed-first-requires : tie.Need-digits_needed-first-requires
+digits_needed-first-requires c κs = search rules
 
-mul-at-2 : tie.Need-overflow-mul-at-2
-mul-at-2 c = search rules
+overflow_mul-k-2 : tie.Need-overflow_mul-k-2
+overflow_mul-k-2 c = search rules
 
-add_at : tie.Need-overflow-add-at
-add_at c = search rules
+overflow_add-k : tie.Need-overflow_add-k
+overflow_add-k c = search rules
 
 at-requires-2 : tie.Need-at-requires-2
 at-requires-2 c κs = search rules
 
-digits-needed-requires-2 : tie.Need-digits-needed-requires-2
-digits-needed-requires-2 c κs = search rules
+digits_needed-second-requires : tie.Need-digits_needed-second-requires
+digits_needed-second-requires c κs = search rules
 
-mul-at-3 : tie.Need-overflow-mul-at-3
-mul-at-3 c = search rules
+overflow_mul-k-3 : tie.Need-overflow_mul-k-3
+overflow_mul-k-3 c = search rules
 
-add-at-2 : tie.Need-overflow-add-at-2
-add-at-2 c = search rules
+overflow_add-k-2 : tie.Need-overflow_add-k-2
+overflow_add-k-2 c = search rules
 
 at-requires-3 : tie.Need-at-requires-3
 at-requires-3 c κs = search rules
 
-digits-needed-requires-3 : tie.Need-digits-needed-requires-3
-digits-needed-requires-3 c κs = search rules
+digits_needed-third-requires : tie.Need-digits_needed-third-requires
+digits_needed-third-requires c κs = search rules
 
-gap-length-requires : tie.Need-gap-length-requires
-gap-length-requires c κs = search rules
+gap_length-requires : tie.Need-gap_length-requires
+gap_length-requires c κs = search rules
 
-add-result : tie.Need-overflow-add-result
-add-result c = omega (arith, counted c, few c)
+overflow_add-result : tie.Need-overflow_add-result
+overflow_add-result c = omega (arith, counted c, few c)
 
-add-result-2 : tie.Need-overflow-add-result-2
-add-result-2 c = omega (arith, counted c, few c)
+overflow_add-result-2 : tie.Need-overflow_add-result-2
+overflow_add-result-2 c = omega (arith, counted c, few c)
 
-add-result-3 : tie.Need-overflow-add-result-3
-add-result-3 c = omega (arith, counted c, few c)
+overflow_add-result-3 : tie.Need-overflow_add-result-3
+overflow_add-result-3 c = omega (arith, counted c, few c)
 
-add-result-4 : tie.Need-overflow-add-result-4
-add-result-4 c = omega (arith, counted c, few c)
+overflow_add-result-4 : tie.Need-overflow_add-result-4
+overflow_add-result-4 c = omega (arith, counted c, few c)
 
 returns : tie.Need-returns
 returns c = omega (arith, counted c)
 
-pub face-length-spec : {M : Type 1} → statement M
-face-length-spec =
+pub face_length_spec : {M : Type 1} → statement M
+face_length_spec =
     tie.close
     (tie.spec
-    mul_at
+    overflow_mul-k
     at-requires
-    digits-needed-requires
-    mul-at-2
-    add_at
+    digits_needed-first-requires
+    overflow_mul-k-2
+    overflow_add-k
     at-requires-2
-    digits-needed-requires-2
-    mul-at-3
-    add-at-2
+    digits_needed-second-requires
+    overflow_mul-k-3
+    overflow_add-k-2
     at-requires-3
-    digits-needed-requires-3
-    gap-length-requires
-    add-result
-    add-result-2
-    add-result-3
-    add-result-4
+    digits_needed-third-requires
+    gap_length-requires
+    overflow_add-result
+    overflow_add-result-2
+    overflow_add-result-3
+    overflow_add-result-4
     returns)

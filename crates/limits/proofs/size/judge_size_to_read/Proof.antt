@@ -13,33 +13,39 @@ use Rattle.limits.proofs.size.judge_size_to_read.Statement.{statement}
 use Rattle.limits.proofs.size.judge_size_to_read.Tie as tie
 
 -- past the first test, 4 is passed
-passed : (c : tie.Else1)
-    → let a = c.before.before.args in
+passed : (c : tie.Else-number-ne0)
+    → let a = c.args in
     Passed (too_large most_triangles a.vertices a.triangles ∷ [])
-passed c = judged-passed c.before.judge-large.ensures c.if1.false (omega arith)
+passed c = judged-passed c.judge_large-number.ensures c.if-number-ne0.false (omega arith)
 
 -- so the triangles are few
-few : (c : tie.Else1) → c.before.before.args.triangles ≤ most_triangles
+few : (c : tie.Else-number-ne0) → c.args.triangles ≤ most_triangles
 unfolding Passed
 few c = (large-within _ _ _ (passed c).0).0
 
-judge-large-requires : tie.Need-judge-large-requires
-judge-large-requires c κs = search rules
+judge_large-number-requires : tie.Need-judge_large-number-requires
+judge_large-number-requires c κs = search rules
+
+returns-then-number-ne0 : tie.Need-returns-then-number-ne0
+returns-then-number-ne0 c = judged-front _ c.judge_large-number.ensures c.if-number-ne0.true
+
+overflow_mul-triangles : tie.Need-overflow_mul-triangles
+overflow_mul-triangles c = omega (arith, few c)
+
+returns-then-out-triangles : tie.Need-returns-then-out-triangles
+unfolding Short
+returns-then-out-triangles c = judged-back _ (passed c.before) (judged-at-0 (inl (omega arith)))
 
 returns : tie.Need-returns
-returns c = judged-front _ c.before.judge-large.ensures c.if1.true
-
-mul-if2 : tie.Need-overflow-mul-if2
-mul-if2 c = omega (arith, few c)
-
-returns-2 : tie.Need-returns-2
 unfolding Short
-returns-2 c = judged-back _ (passed c.before) (judged-at-0 (inl (omega arith)))
+returns c = judged-back _ (passed c.before) (judged-not (⊎_elim (λ l. omega arith) (λ none. none)) judged-none)
 
-returns-3 : tie.Need-returns-3
-unfolding Short
-returns-3 c =
-    judged-back _ (passed c.before) (judged-not (⊎_elim (λ l. omega arith) (λ none. none)) judged-none)
-
-pub judge-size-to-read-spec : {M : Type 1} → statement M
-judge-size-to-read-spec = tie.close (tie.spec judge-large-requires returns mul-if2 returns-2 returns-3)
+pub judge_size_to_read_spec : {M : Type 1} → statement M
+judge_size_to_read_spec =
+    tie.close
+    (tie.spec
+    judge_large-number-requires
+    returns-then-number-ne0
+    overflow_mul-triangles
+    returns-then-out-triangles
+    returns)

@@ -14,37 +14,43 @@ use Rattle.limits.proofs.size.judge_write_size.Statement.{statement}
 use Rattle.limits.proofs.size.judge_write_size.Tie as tie
 
 -- past the first test, 2 and 4 are passed
-passed : (c : tie.Else1)
-    → let a = c.before.before.args in
+passed : (c : tie.Else-number-ne0)
+    → let a = c.args in
     Passed (not_threes a.entries ∷ too_large most_triangles a.vertices (a.entries / 3) ∷ [])
-passed c = judged-passed c.before.judge-size-to-write.ensures c.if1.false (omega arith)
+passed c = judged-passed c.judge_size_to_write-number.ensures c.if-number-ne0.false (omega arith)
 
 -- so the triangles are few
-few : (c : tie.Else1) → c.before.before.args.entries / 3 ≤ most_triangles
+few : (c : tie.Else-number-ne0) → c.args.entries / 3 ≤ most_triangles
 unfolding Passed
 few c = (large-within _ _ _ (passed c).1.0).0
 
-judge-size-to-write-requires : tie.Need-judge-size-to-write-requires
-judge-size-to-write-requires c κs = search rules
+judge_size_to_write-number-requires : tie.Need-judge_size_to_write-number-requires
+judge_size_to_write-number-requires c κs = search rules
+
+returns-then-number-ne0 : tie.Need-returns-then-number-ne0
+returns-then-number-ne0 c = judged-front _ c.judge_size_to_write-number.ensures c.if-number-ne0.true
+
+overflow_mul-entries : tie.Need-overflow_mul-entries
+overflow_mul-entries c = omega (arith, few c)
+
+overflow_add-entries : tie.Need-overflow_add-entries
+overflow_add-entries c = omega (arith, few c)
+
+returns-then-out-entries : tie.Need-returns-then-out-entries
+unfolding Short
+returns-then-out-entries c = judged-back _ (passed c.before) (judged-at-0 (inl (omega arith)))
 
 returns : tie.Need-returns
-returns c = judged-front _ c.before.judge-size-to-write.ensures c.if1.true
-
-mul-if2 : tie.Need-overflow-mul-if2
-mul-if2 c = omega (arith, few c)
-
-add-if2 : tie.Need-overflow-add-if2
-add-if2 c = omega (arith, few c)
-
-returns-2 : tie.Need-returns-2
 unfolding Short
-returns-2 c = judged-back _ (passed c.before) (judged-at-0 (inl (omega arith)))
+returns c = judged-back _ (passed c.before) (judged-not (⊎_elim (λ l. omega arith) (λ none. none)) judged-none)
 
-returns-3 : tie.Need-returns-3
-unfolding Short
-returns-3 c =
-    judged-back _ (passed c.before) (judged-not (⊎_elim (λ l. omega arith) (λ none. none)) judged-none)
-
-pub judge-write-size-spec : {M : Type 1} → statement M
-judge-write-size-spec =
-    tie.close (tie.spec judge-size-to-write-requires returns mul-if2 add-if2 returns-2 returns-3)
+pub judge_write_size_spec : {M : Type 1} → statement M
+judge_write_size_spec =
+    tie.close
+    (tie.spec
+    judge_size_to_write-number-requires
+    returns-then-number-ne0
+    overflow_mul-entries
+    overflow_add-entries
+    returns-then-out-entries
+    returns)

@@ -98,156 +98,152 @@ module _ {u start n : ℕ} {greater stamp₀ last₀ ring₀ stamp last ring : L
         stamps = T.stamps;
       }
 
-abbrev invariant-loop : tie.invariant-loop
-invariant-loop u start n greater stamp₀ last₀ ring₀ h₀ stamp last ring h =
+abbrev invariant-loop-h : tie.invariant-loop-h
+invariant-loop-h u start n greater stamp₀ last₀ ring₀ h₀ stamp last ring h =
     Turn u start n greater stamp₀ last₀ ring₀ stamp last ring h
 
-abbrev decreases-loop : tie.decreases-loop
-decreases-loop u start n greater stamp₀ last₀ ring₀ h₀ stamp last ring h = n - h
+abbrev decreases-loop-h : tie.decreases-loop-h
+decreases-loop-h u start n greater stamp₀ last₀ ring₀ h₀ stamp last ring h = n - h
 
-loop-holds : tie.Need-loop-init invariant-loop decreases-loop
-loop-holds c = begun c.before.before.before.before.requires
+loop-h-init : tie.Need-loop-h-init invariant-loop-h decreases-loop-h
+loop-h-init c = begun c.requires
 
-at-requires : tie.Need-at-requires invariant-loop decreases-loop
-at-requires c κs = omega arith
+at-x-requires : tie.Need-at-x-requires invariant-loop-h decreases-loop-h
+at-x-requires c κs = omega arith
 
 -- `x` is an index of both tables
-stampable : (c : tie.After-at invariant-loop decreases-loop) → c.at.result < length c.before.before.loop.stamp
-stampable c = stamp-room c.before.before.loop.invariant c.before.loop-test.true c.at.ensures
+stampable : (c : tie.After-at-x invariant-loop-h decreases-loop-h) → c.at-x.result < length c.loop-h.stamp
+stampable c = stamp-room c.loop-h.invariant c.loop-h-test.true c.at-x.ensures
 
-lastable : (c : tie.After-at invariant-loop decreases-loop) → c.at.result < length c.before.before.loop.last
-lastable c = last-room c.before.before.loop.invariant c.before.loop-test.true c.at.ensures
+lastable : (c : tie.After-at-x invariant-loop-h decreases-loop-h) → c.at-x.result < length c.loop-h.last
+lastable c = last-room c.loop-h.invariant c.loop-h-test.true c.at-x.ensures
 
-at-requires-2 : tie.Need-at-requires-2 invariant-loop decreases-loop
-at-requires-2 c κs = stampable c.before
+at-requires : tie.Need-at-requires invariant-loop-h decreases-loop-h
+at-requires c κs = stampable c
 
-at-requires-3 : tie.Need-at-requires-3 invariant-loop decreases-loop
-at-requires-3 c κs = lastable c.before.before.before
+at-requires-in-loop-h : tie.Need-at-requires-in-loop-h invariant-loop-h decreases-loop-h
+at-requires-in-loop-h c κs = lastable c.before
 
-chosen-requires : tie.Need-chosen-requires invariant-loop decreases-loop
-chosen-requires c κs = tt
+chosen-prev-requires : tie.Need-chosen-prev-requires invariant-loop-h decreases-loop-h
+chosen-prev-requires c κs = tt
 
 -- where `x` was read
-abbrev read : tie.After-chosen invariant-loop decreases-loop → tie.After-at invariant-loop decreases-loop
-read c = c.before.before.before.before.before
+abbrev read : tie.After-chosen-prev invariant-loop-h decreases-loop-h → tie.After-at-x invariant-loop-h decreases-loop-h
+read c = c.before.before.before
 
 -- `prev` is not after h
-prev-le : (c : tie.After-chosen invariant-loop decreases-loop) → c.chosen.result ≤ (read c).before.before.loop.h
+prev-le : (c : tie.After-chosen-prev invariant-loop-h decreases-loop-h) → c.chosen-prev.result ≤ (read c).loop-h.h
 prev-le c =
-    prev-not-after (read c).before.before.loop.invariant (read c).before.loop-test.true (read c).at.ensures
-    c.before.before.before.at2.ensures
-    c.before.at3.ensures
-    c.chosen.ensures
+    prev-not-after (read c).loop-h.invariant (read c).loop-h-test.true (read c).at-x.ensures
+    c.at.ensures
+    c.at-in-loop-h.ensures
+    c.chosen-prev.ensures
 
-cast-stamp : tie.Need-overflow-cast-stamp invariant-loop decreases-loop
-cast-stamp c = omega arith
+overflow_cast-stamp : tie.Need-overflow_cast-stamp invariant-loop-h decreases-loop-h
+overflow_cast-stamp c = omega arith
 
-mul-stamp : tie.Need-overflow-mul-stamp invariant-loop decreases-loop
-mul-stamp c = omega (arith, stampable (read c))
+offset_bounds-stamp-x : tie.Need-offset_bounds-stamp-x invariant-loop-h decreases-loop-h
+offset_bounds-stamp-x c = omega (arith, stampable (read c))
 
-slice-write-stamp : tie.Need-slice-write-stamp invariant-loop decreases-loop
-slice-write-stamp c = omega (arith, stampable (read c))
+bounds-stamp-x : tie.Need-bounds-stamp-x invariant-loop-h decreases-loop-h
+bounds-stamp-x c = omega (arith, stampable (read c))
 
-cast-last : tie.Need-overflow-cast-last invariant-loop decreases-loop
-cast-last c = omega arith
+overflow_cast-last : tie.Need-overflow_cast-last invariant-loop-h decreases-loop-h
+overflow_cast-last c = omega arith
 
-mul-last : tie.Need-overflow-mul-last invariant-loop decreases-loop
-mul-last c = omega (arith, lastable (read c))
+offset_bounds-last-x : tie.Need-offset_bounds-last-x invariant-loop-h decreases-loop-h
+offset_bounds-last-x c = omega (arith, lastable (read c))
 
-slice-write-last : tie.Need-slice-write-last invariant-loop decreases-loop
-slice-write-last c = omega (arith, lastable (read c))
+bounds-last-x : tie.Need-bounds-last-x invariant-loop-h decreases-loop-h
+bounds-last-x c = omega (arith, lastable (read c))
 
-at-requires-4 : tie.Need-at-requires-4 invariant-loop decreases-loop
-at-requires-4 c κs = omega arith
+at-next-requires : tie.Need-at-next-requires invariant-loop-h decreases-loop-h
+at-next-requires c κs = omega arith
 
-cast-ring : tie.Need-overflow-cast-ring invariant-loop decreases-loop
-cast-ring c = omega arith
+overflow_cast-ring : tie.Need-overflow_cast-ring invariant-loop-h decreases-loop-h
+overflow_cast-ring c = omega arith
 
-mul-ring : tie.Need-overflow-mul-ring invariant-loop decreases-loop
-mul-ring c = omega arith
+offset_bounds-ring-h : tie.Need-offset_bounds-ring-h invariant-loop-h decreases-loop-h
+offset_bounds-ring-h c = omega arith
 
-slice-write-ring : tie.Need-slice-write-ring invariant-loop decreases-loop
-slice-write-ring c = omega arith
+bounds-ring-h : tie.Need-bounds-ring-h invariant-loop-h decreases-loop-h
+bounds-ring-h c = omega arith
 
-mul-ring-2 : tie.Need-overflow-mul-ring-2 invariant-loop decreases-loop
-mul-ring-2 c = omega (arith, prev-le c.before.before)
+offset_bounds-ring-prev : tie.Need-offset_bounds-ring-prev invariant-loop-h decreases-loop-h
+offset_bounds-ring-prev c = omega (arith, prev-le c.before)
 
-slice-read-ring : tie.Need-slice-read-ring invariant-loop decreases-loop
-slice-read-ring c = simp length-set (omega (arith, prev-le c.before.before.before))
+bounds-ring-prev : tie.Need-bounds-ring-prev invariant-loop-h decreases-loop-h
+bounds-ring-prev c = simp length-set (omega (arith, prev-le c.before.before))
 
-mul-ring-3 : tie.Need-overflow-mul-ring-3 invariant-loop decreases-loop
-mul-ring-3 c = omega arith
+offset_bounds-ring-h-in-loop-h : tie.Need-offset_bounds-ring-h-in-loop-h invariant-loop-h decreases-loop-h
+offset_bounds-ring-h-in-loop-h c = omega arith
 
-slice-write-ring-2 : tie.Need-slice-write-ring-2 invariant-loop decreases-loop
-slice-write-ring-2 c = simp length-set (omega arith)
+bounds-ring-h-in-loop-h : tie.Need-bounds-ring-h-in-loop-h invariant-loop-h decreases-loop-h
+bounds-ring-h-in-loop-h c = simp length-set (omega arith)
 
-cast-ring-2 : tie.Need-overflow-cast-ring-2 invariant-loop decreases-loop
-cast-ring-2 c = omega arith
+overflow_cast-ring-in-loop-h : tie.Need-overflow_cast-ring-in-loop-h invariant-loop-h decreases-loop-h
+overflow_cast-ring-in-loop-h c = omega arith
 
-mul-ring-4 : tie.Need-overflow-mul-ring-4 invariant-loop decreases-loop
-mul-ring-4 c = omega (arith, prev-le c.before.before.before)
+offset_bounds-ring-prev-in-loop-h : tie.Need-offset_bounds-ring-prev-in-loop-h invariant-loop-h decreases-loop-h
+offset_bounds-ring-prev-in-loop-h c = omega (arith, prev-le c.before.before)
 
-slice-write-ring-3 : tie.Need-slice-write-ring-3 invariant-loop decreases-loop
-slice-write-ring-3 c = simp length-set (omega (arith, prev-le c.before.before.before))
+bounds-ring-prev-in-loop-h : tie.Need-bounds-ring-prev-in-loop-h invariant-loop-h decreases-loop-h
+bounds-ring-prev-in-loop-h c = simp length-set (omega (arith, prev-le c.before.before))
 
-loop-less : tie.Need-loop-smaller invariant-loop decreases-loop
-loop-less c =
-    let in-loop = (read c.before.before.before).before in
-    omega (arith, onward in-loop.before.loop.inv in-loop.loop-test.taken c.before.at4.ensures)
+loop-h-smaller : tie.Need-loop-h-smaller invariant-loop-h decreases-loop-h
+loop-h-smaller c = omega (arith, onward c.loop-h.invariant c.loop-h-test.true c.at-next.ensures)
 
-loop-again : tie.Need-loop-preserved invariant-loop decreases-loop
-loop-again c =
-    let d = c.before.before.before in
-    let x = read d in
-    turned x.before.before.loop.inv x.before.loop-test.taken x.at.ensures
-    d.before.before.before.at2.ensures
-    d.before.at3.ensures
-    d.chosen.ensures
-    c.before.at4.ensures
+loop-h-preserved : tie.Need-loop-h-preserved invariant-loop-h decreases-loop-h
+loop-h-preserved c =
+    turned c.loop-h.invariant c.loop-h-test.true c.at-x.ensures
+    c.at.ensures
+    c.at-in-loop-h.ensures
+    c.chosen-prev.ensures
+    c.at-next.ensures
 
-same_length : tie.Need-same-length invariant-loop decreases-loop
-same_length c = omega arith
+shape_of-stamp : tie.Need-shape_of-stamp invariant-loop-h decreases-loop-h
+shape_of-stamp c = omega arith
 
-same-length-2 : tie.Need-same-length-2 invariant-loop decreases-loop
-same-length-2 c = omega arith
+shape_of-last : tie.Need-shape_of-last invariant-loop-h decreases-loop-h
+shape_of-last c = omega arith
 
-same-length-3 : tie.Need-same-length-3 invariant-loop decreases-loop
-same-length-3 c = omega arith
+shape_of-ring : tie.Need-shape_of-ring invariant-loop-h decreases-loop-h
+shape_of-ring c = omega arith
 
-returns : tie.Need-returns invariant-loop decreases-loop
-returns c = finished c.before.loop.invariant c.loop-test.false
+returns : tie.Need-returns invariant-loop-h decreases-loop-h
+returns c = finished c.loop-h.invariant c.loop-h-test.false
 
-pub join-spec : {M : Type 1} → statement M
-join-spec =
+pub join_spec : {M : Type 1} → statement M
+join_spec =
     tie.close
     (tie.spec
-    invariant-loop
-    decreases-loop
-    loop-holds
+    invariant-loop-h
+    decreases-loop-h
+    loop-h-init
+    at-x-requires
     at-requires
-    at-requires-2
-    at-requires-3
-    chosen-requires
-    cast-stamp
-    mul-stamp
-    slice-write-stamp
-    cast-last
-    mul-last
-    slice-write-last
-    at-requires-4
-    cast-ring
-    mul-ring
-    slice-write-ring
-    mul-ring-2
-    slice-read-ring
-    mul-ring-3
-    slice-write-ring-2
-    cast-ring-2
-    mul-ring-4
-    slice-write-ring-3
-    loop-less
-    loop-again
-    same_length
-    same-length-2
-    same-length-3
+    at-requires-in-loop-h
+    chosen-prev-requires
+    overflow_cast-stamp
+    offset_bounds-stamp-x
+    bounds-stamp-x
+    overflow_cast-last
+    offset_bounds-last-x
+    bounds-last-x
+    at-next-requires
+    overflow_cast-ring
+    offset_bounds-ring-h
+    bounds-ring-h
+    offset_bounds-ring-prev
+    bounds-ring-prev
+    offset_bounds-ring-h-in-loop-h
+    bounds-ring-h-in-loop-h
+    overflow_cast-ring-in-loop-h
+    offset_bounds-ring-prev-in-loop-h
+    bounds-ring-prev-in-loop-h
+    loop-h-smaller
+    loop-h-preserved
+    shape_of-stamp
+    shape_of-last
+    shape_of-ring
     returns)

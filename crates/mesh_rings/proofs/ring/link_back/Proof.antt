@@ -86,181 +86,171 @@ finished i S l =
     let e : i ≡ 0 = omega arith in
     record { heads = λ u b. rw e at (S.heads u b); links = λ g b. S.links g (omega arith) b }
 
-abbrev invariant-loop : tie.invariant-loop
-invariant-loop list vertices triangles head₀ link₀ k₀ head link k =
+abbrev invariant-loop-k : tie.invariant-loop-k
+invariant-loop-k list vertices triangles head₀ link₀ k₀ head link k =
     Turn vertices triangles list head₀ link₀ head link (3 * k)
 
-abbrev decreases-loop : tie.decreases-loop
-decreases-loop list vertices triangles head₀ link₀ k₀ head link k = k
+abbrev decreases-loop-k : tie.decreases-loop-k
+decreases-loop-k list vertices triangles head₀ link₀ k₀ head link k = k
 
 -- how far the puts of one turn have come
-abbrev Come : tie.In-loop invariant-loop decreases-loop → List ℕ → List ℕ → ℕ → Type 0
+abbrev Come : tie.In-loop-k invariant-loop-k decreases-loop-k → List ℕ → List ℕ → ℕ → Type 0
 Come c head link i =
-    let start = c.before.before.before.before.before in
-    Turn start.args.vertices start.args.triangles start.args.list.now start.args.head.now
-    start.args.link.now head link i
+    Turn c.args.vertices c.args.triangles c.args.list.now c.args.head.now
+    c.args.link.now head link i
 
 -- the turn that a first put belongs to, and the number of its triangle
-abbrev turn-of : tie.After-put-first invariant-loop decreases-loop → tie.In-loop invariant-loop decreases-loop
+abbrev turn-of : tie.After-put_first invariant-loop-k decreases-loop-k → tie.In-loop-k invariant-loop-k decreases-loop-k
 turn-of c = c.before.before.before.before.before.before.before
 
-abbrev triangle-of : tie.In-loop invariant-loop decreases-loop → ℕ
-triangle-of c = c.before.loop.k - 1
+abbrev triangle-of : tie.In-loop-k invariant-loop-k decreases-loop-k → ℕ
+triangle-of c = c.loop-k.k - 1
 
 -- after the first put
-put_last : (c : tie.After-put-first invariant-loop decreases-loop)
-    → Come (turn-of c) c.put_first.new.1.1.0 c.put_first.new.1.1.1.0 (3 * triangle-of (turn-of c) + 2)
+put_last : (c : tie.After-put_first invariant-loop-k decreases-loop-k)
+    → Come (turn-of c) c.put_first.new.head c.put_first.new.link (3 * triangle-of (turn-of c) + 2)
 put_last c =
-    put (turn-of c).before.loop.invariant (3 * triangle-of (turn-of c) + 2) (omega (arith, (turn-of c).loop-test.true))
-    (next_last (triangle-of (turn-of c))) c.before.before.before.lesser-of.ensures
+    put (turn-of c).loop-k.invariant (3 * triangle-of (turn-of c) + 2) (omega (arith, (turn-of c).loop-k-test.true))
+    (next_last (triangle-of (turn-of c))) c.lesser_of.ensures
     c.put_first.ensures.0 c.put_first.ensures.1
 
 -- the put before the second one
-abbrev first_of : tie.After-put-first2 invariant-loop decreases-loop → tie.After-put-first invariant-loop decreases-loop
+abbrev first_of : tie.After-put_first-in-loop-k invariant-loop-k decreases-loop-k → tie.After-put_first invariant-loop-k decreases-loop-k
 first_of c = c.before.before.before.before.before.before.before.before
 
 -- after the second put
-put-middle : (c : tie.After-put-first2 invariant-loop decreases-loop)
-    → Come (turn-of (first_of c)) c.put-first2.new.1.1.0 c.put-first2.new.1.1.1.0
+put-middle : (c : tie.After-put_first-in-loop-k invariant-loop-k decreases-loop-k)
+    → Come (turn-of (first_of c)) c.put_first-in-loop-k.new.head c.put_first-in-loop-k.new.link
     (3 * triangle-of (turn-of (first_of c)) + 1)
 put-middle c =
     let k = triangle-of (turn-of (first_of c)) in
     put (put_last (first_of c)) (3 * k + 1) (omega arith) (next-second k)
-    c.before.before.before.lesser-of2.ensures c.put-first2.ensures.0 c.put-first2.ensures.1
+    c.lesser_of-in-loop-k.ensures c.put_first-in-loop-k.ensures.0 c.put_first-in-loop-k.ensures.1
 
-loop-holds : tie.Need-loop-init invariant-loop decreases-loop
-loop-holds c = begun c.before.before.before.requires.0 c.before.before.before.requires.1
+loop-k-init : tie.Need-loop-k-init invariant-loop-k decreases-loop-k
+loop-k-init c = begun c.requires.0 c.requires.1
 
-sub-k : tie.Need-overflow-sub-k invariant-loop decreases-loop
-sub-k c = omega arith
+overflow_sub-k : tie.Need-overflow_sub-k invariant-loop-k decreases-loop-k
+overflow_sub-k c = omega arith
 
-mul-a : tie.Need-overflow-mul-a invariant-loop decreases-loop
-mul-a c = omega arith
+overflow_mul-a : tie.Need-overflow_mul-a invariant-loop-k decreases-loop-k
+overflow_mul-a c = omega arith
 
-mul-a-2 : tie.Need-overflow-mul-a-2 invariant-loop decreases-loop
-mul-a-2 c = omega arith
+offset_bounds-list-k : tie.Need-offset_bounds-list-k invariant-loop-k decreases-loop-k
+offset_bounds-list-k c = omega arith
 
-shared-slice-read-a : tie.Need-shared-slice-read-a invariant-loop decreases-loop
-shared-slice-read-a c = omega arith
+bounds-list-k : tie.Need-bounds-list-k invariant-loop-k decreases-loop-k
+bounds-list-k c = omega arith
 
-mul-b : tie.Need-overflow-mul-b invariant-loop decreases-loop
-mul-b c = omega arith
+overflow_mul-b : tie.Need-overflow_mul-b invariant-loop-k decreases-loop-k
+overflow_mul-b c = omega arith
 
-add-b : tie.Need-overflow-add-b invariant-loop decreases-loop
-add-b c = omega arith
+overflow_add-b : tie.Need-overflow_add-b invariant-loop-k decreases-loop-k
+overflow_add-b c = omega arith
 
-mul-b-2 : tie.Need-overflow-mul-b-2 invariant-loop decreases-loop
-mul-b-2 c = omega arith
+offset_bounds-list-k-in-loop-k : tie.Need-offset_bounds-list-k-in-loop-k invariant-loop-k decreases-loop-k
+offset_bounds-list-k-in-loop-k c = omega arith
 
-shared-slice-read-b : tie.Need-shared-slice-read-b invariant-loop decreases-loop
-shared-slice-read-b c = omega arith
+bounds-list-k-in-loop-k : tie.Need-bounds-list-k-in-loop-k invariant-loop-k decreases-loop-k
+bounds-list-k-in-loop-k c = omega arith
 
-mul-c : tie.Need-overflow-mul-c invariant-loop decreases-loop
-mul-c c = omega arith
+overflow_mul-c : tie.Need-overflow_mul-c invariant-loop-k decreases-loop-k
+overflow_mul-c c = omega arith
 
-add-c : tie.Need-overflow-add-c invariant-loop decreases-loop
-add-c c = omega arith
+overflow_add-c : tie.Need-overflow_add-c invariant-loop-k decreases-loop-k
+overflow_add-c c = omega arith
 
-mul-c-2 : tie.Need-overflow-mul-c-2 invariant-loop decreases-loop
-mul-c-2 c = omega arith
+offset_bounds-list-k-in-loop-k-2 : tie.Need-offset_bounds-list-k-in-loop-k-2 invariant-loop-k decreases-loop-k
+offset_bounds-list-k-in-loop-k-2 c = omega arith
 
-shared-slice-read-c : tie.Need-shared-slice-read-c invariant-loop decreases-loop
-shared-slice-read-c c = omega arith
+bounds-list-k-in-loop-k-2 : tie.Need-bounds-list-k-in-loop-k-2 invariant-loop-k decreases-loop-k
+bounds-list-k-in-loop-k-2 c = omega arith
 
-mul-put-first : tie.Need-overflow-mul-put-first invariant-loop decreases-loop
-mul-put-first c = omega arith
+overflow_mul-k : tie.Need-overflow_mul-k invariant-loop-k decreases-loop-k
+overflow_mul-k c = omega arith
 
-add-put-first : tie.Need-overflow-add-put-first invariant-loop decreases-loop
-add-put-first c = omega arith
+overflow_add-k : tie.Need-overflow_add-k invariant-loop-k decreases-loop-k
+overflow_add-k c = omega arith
 
-lesser-of-requires : tie.Need-lesser-of-requires invariant-loop decreases-loop
-lesser-of-requires c κs = tt
+lesser_of-requires : tie.Need-lesser_of-requires invariant-loop-k decreases-loop-k
+lesser_of-requires c κs = tt
 
-put-first-requires : tie.Need-put-first-requires invariant-loop decreases-loop
-put-first-requires c κs =
-    let in-loop = c.before.before.before.before.before.before in
-    puttable in-loop.before.loop.invariant (3 * triangle-of in-loop + 2) (omega (arith, in-loop.loop-test.true))
-    (next_last (triangle-of in-loop)) c.before.before.lesser-of.ensures
+put_first-requires : tie.Need-put_first-requires invariant-loop-k decreases-loop-k
+put_first-requires c κs = puttable c.loop-k.invariant (3 * triangle-of c.before.before.before.before.before.before + 2) (omega (arith, c.loop-k-test.true))
+    (next_last (triangle-of c.before.before.before.before.before.before)) c.lesser_of.ensures
 
-mul-put-first-2 : tie.Need-overflow-mul-put-first-2 invariant-loop decreases-loop
-mul-put-first-2 c = omega arith
+overflow_mul-k-in-loop-k : tie.Need-overflow_mul-k-in-loop-k invariant-loop-k decreases-loop-k
+overflow_mul-k-in-loop-k c = omega arith
 
-add-put-first-2 : tie.Need-overflow-add-put-first-2 invariant-loop decreases-loop
-add-put-first-2 c = omega arith
+overflow_add-k-in-loop-k : tie.Need-overflow_add-k-in-loop-k invariant-loop-k decreases-loop-k
+overflow_add-k-in-loop-k c = omega arith
 
-lesser-of-requires-2 : tie.Need-lesser-of-requires-2 invariant-loop decreases-loop
-lesser-of-requires-2 c κs = tt
+lesser_of-requires-in-loop-k : tie.Need-lesser_of-requires-in-loop-k invariant-loop-k decreases-loop-k
+lesser_of-requires-in-loop-k c κs = tt
 
-put-first-requires-2 : tie.Need-put-first-requires-2 invariant-loop decreases-loop
-put-first-requires-2 c κs =
-    let first = c.before.before.before.before.before.before.before in
-    let k = triangle-of (turn-of first) in
-    puttable (put_last first) (3 * k + 1) (omega arith) (next-second k) c.before.before.lesser-of2.ensures
+put_first-requires-in-loop-k : tie.Need-put_first-requires-in-loop-k invariant-loop-k decreases-loop-k
+put_first-requires-in-loop-k c κs = let k = triangle-of (turn-of c.before.before.before.before.before.before.before) in
+    puttable (put_last c.before.before.before.before.before.before.before) (3 * k + 1) (omega arith) (next-second k) c.lesser_of-in-loop-k.ensures
 
-mul-put-first-3 : tie.Need-overflow-mul-put-first-3 invariant-loop decreases-loop
-mul-put-first-3 c = omega arith
+overflow_mul-k-in-loop-k-2 : tie.Need-overflow_mul-k-in-loop-k-2 invariant-loop-k decreases-loop-k
+overflow_mul-k-in-loop-k-2 c = omega arith
 
-lesser-of-requires-3 : tie.Need-lesser-of-requires-3 invariant-loop decreases-loop
-lesser-of-requires-3 c κs = tt
+lesser_of-requires-in-loop-k-2 : tie.Need-lesser_of-requires-in-loop-k-2 invariant-loop-k decreases-loop-k
+lesser_of-requires-in-loop-k-2 c κs = tt
 
-put-first-requires-3 : tie.Need-put-first-requires-3 invariant-loop decreases-loop
-put-first-requires-3 c κs =
-    let second = c.before.before.before.before.before.before.before in
-    let k = triangle-of (turn-of (first_of second)) in
-    puttable (put-middle second) (3 * k) (omega arith) (next-first k) c.before.before.lesser-of3.ensures
+put_first-requires-in-loop-k-2 : tie.Need-put_first-requires-in-loop-k-2 invariant-loop-k decreases-loop-k
+put_first-requires-in-loop-k-2 c κs = let k = triangle-of (turn-of (first_of c.before.before.before.before.before.before.before)) in
+    puttable (put-middle c.before.before.before.before.before.before.before) (3 * k) (omega arith) (next-first k) c.lesser_of-in-loop-k-2.ensures
 
-loop-less : tie.Need-loop-smaller invariant-loop decreases-loop
-loop-less c = omega arith
+loop-k-smaller : tie.Need-loop-k-smaller invariant-loop-k decreases-loop-k
+loop-k-smaller c = omega arith
 
-loop-again : tie.Need-loop-preserved invariant-loop decreases-loop
-loop-again c =
-    let third = c.before.before.before.before in
-    let second = third.before.before.before.before.before.before.before.before in
-    let k = triangle-of (turn-of (first_of second)) in
-    put (put-middle second) (3 * k) (omega arith) (next-first k) third.before.before.before.lesser-of3.ensures
-    third.put-first3.ensures.0 third.put-first3.ensures.1
+loop-k-preserved : tie.Need-loop-k-preserved invariant-loop-k decreases-loop-k
+loop-k-preserved c = let k = triangle-of (turn-of (first_of c.before.before.before.before.before.before.before.before.before.before.before.before)) in
+    put (put-middle c.before.before.before.before.before.before.before.before.before.before.before.before) (3 * k) (omega arith) (next-first k) c.lesser_of-in-loop-k-2.ensures
+    c.put_first-in-loop-k-2.ensures.0 c.put_first-in-loop-k-2.ensures.1
 
-same_length : tie.Need-same-length invariant-loop decreases-loop
-same_length c = omega arith
+shape_of-head : tie.Need-shape_of-head invariant-loop-k decreases-loop-k
+shape_of-head c = omega arith
 
-same-length-2 : tie.Need-same-length-2 invariant-loop decreases-loop
-same-length-2 c = omega arith
+shape_of-link : tie.Need-shape_of-link invariant-loop-k decreases-loop-k
+shape_of-link c = omega arith
 
-returns : tie.Need-returns invariant-loop decreases-loop
-returns c = finished _ c.before.loop.invariant (omega (arith, c.loop-test.false))
+returns : tie.Need-returns invariant-loop-k decreases-loop-k
+returns c = finished _ c.loop-k.invariant (omega (arith, c.loop-k-test.false))
 
-pub link-back-spec : {M : Type 1} → statement M
-link-back-spec =
+pub link_back_spec : {M : Type 1} → statement M
+link_back_spec =
     tie.close
     (tie.spec
-    invariant-loop
-    decreases-loop
-    loop-holds
-    sub-k
-    mul-a
-    mul-a-2
-    shared-slice-read-a
-    mul-b
-    add-b
-    mul-b-2
-    shared-slice-read-b
-    mul-c
-    add-c
-    mul-c-2
-    shared-slice-read-c
-    mul-put-first
-    add-put-first
-    lesser-of-requires
-    put-first-requires
-    mul-put-first-2
-    add-put-first-2
-    lesser-of-requires-2
-    put-first-requires-2
-    mul-put-first-3
-    lesser-of-requires-3
-    put-first-requires-3
-    loop-less
-    loop-again
-    same_length
-    same-length-2
+    invariant-loop-k
+    decreases-loop-k
+    loop-k-init
+    overflow_sub-k
+    overflow_mul-a
+    offset_bounds-list-k
+    bounds-list-k
+    overflow_mul-b
+    overflow_add-b
+    offset_bounds-list-k-in-loop-k
+    bounds-list-k-in-loop-k
+    overflow_mul-c
+    overflow_add-c
+    offset_bounds-list-k-in-loop-k-2
+    bounds-list-k-in-loop-k-2
+    overflow_mul-k
+    overflow_add-k
+    lesser_of-requires
+    put_first-requires
+    overflow_mul-k-in-loop-k
+    overflow_add-k-in-loop-k
+    lesser_of-requires-in-loop-k
+    put_first-requires-in-loop-k
+    overflow_mul-k-in-loop-k-2
+    lesser_of-requires-in-loop-k-2
+    put_first-requires-in-loop-k-2
+    loop-k-smaller
+    loop-k-preserved
+    shape_of-head
+    shape_of-link
     returns)

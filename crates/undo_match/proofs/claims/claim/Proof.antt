@@ -6,41 +6,38 @@ use Rattle.undo_match.proofs.claims.claim.Statement.{statement}
 use Rattle.undo_match.proofs.claims.claim.Tie as tie
 
 -- where the function begins
-abbrev start : tie.Else1 → tie.Start
+abbrev start : tie.Else-marks-k-eq0 → tie.Start
 start c = c.before.before.before.before.before
 
-mul-if1 : tie.Need-overflow-mul-if1
-mul-if1 c = search rules
+offset_bounds-marks-k : tie.Need-offset_bounds-marks-k
+offset_bounds-marks-k c = search rules
 
-shared-slice-read-if1 : tie.Need-shared-slice-read-if1
-shared-slice-read-if1 c = search rules
+bounds-marks-k : tie.Need-bounds-marks-k
+bounds-marks-k c = search rules
+
+returns-then-marks-k-eq0 : tie.Need-returns-then-marks-k-eq0
+returns-then-marks-k-eq0 c = counted_none c.if-marks-k-eq0.true
+
+claim_four-requires : tie.Need-claim_four-requires
+claim_four-requires c κs = (start c.before).requires.four c.if-marks-k-eq0.false
+
+overflow_add-result : tie.Need-overflow_add-result
+overflow_add-result c = omega (arith, ((start c.before.before.before.before).requires.four c.if-marks-k-eq0.false).out_room)
+
+shape_of-out : tie.Need-shape_of-out
+shape_of-out c = search rules
 
 returns : tie.Need-returns
-returns c = counted_none c.if1.true
+returns c = counted-run c.if-marks-k-eq0.false c.claim_four.ensures
 
-claim-four-requires : tie.Need-claim-four-requires
-claim-four-requires c κs = (start c.before).requires.four c.before.if1.false
-
-add-result : tie.Need-overflow-add-result
-add-result c =
-    let marked = c.before.before.before.before in
-    omega (arith, ((start marked).requires.four marked.if1.false).out_room)
-
-same_length : tie.Need-same-length
-same_length c = search rules
-
-returns-2 : tie.Need-returns-2
-returns-2 c =
-    counted-run c.before.before.before.before.if1.false c.before.before.claim-four.ensures
-
-pub claim-spec : {M : Type 1} → statement M
-claim-spec =
+pub claim_spec : {M : Type 1} → statement M
+claim_spec =
     tie.close
     (tie.spec
-    mul-if1
-    shared-slice-read-if1
-    returns
-    claim-four-requires
-    add-result
-    same_length
-    returns-2)
+    offset_bounds-marks-k
+    bounds-marks-k
+    returns-then-marks-k-eq0
+    claim_four-requires
+    overflow_add-result
+    shape_of-out
+    returns)

@@ -26,129 +26,126 @@ start c = c.before.before.before
 
 -- each entry of the table has 16 bits
 read : (c : tie.After-at) (h : ℕ) → at (start c).args.other.now h < 65536
-read c h = omega (arith, c.before.before.shared-slice-known.given h)
+read c h = omega (arith, c.shared_slice_known-1.given h)
 
-cast-out : tie.Need-overflow-cast-out
-cast-out c = search rules
+overflow_cast-out : tie.Need-overflow_cast-out
+overflow_cast-out c = search rules
 
-mul-out : tie.Need-overflow-mul-out
-mul-out c = search rules
+overflow_mul-out : tie.Need-overflow_mul-out
+overflow_mul-out c = search rules
 
-mul-out-2 : tie.Need-overflow-mul-out-2
-mul-out-2 c = search rules
+offset_bounds-out-count : tie.Need-offset_bounds-out-count
+offset_bounds-out-count c = search rules
 
-slice-write-out : tie.Need-slice-write-out
-slice-write-out c = search rules
+bounds-out-count : tie.Need-bounds-out-count
+bounds-out-count c = search rules
 
-mul_at : tie.Need-overflow-mul-at
-mul_at c = search rules
+overflow_mul-k : tie.Need-overflow_mul-k
+overflow_mul-k c = search rules
 
-add_at : tie.Need-overflow-add-at
-add_at c = search rules
+overflow_add-k : tie.Need-overflow_add-k
+overflow_add-k c = search rules
 
 at-requires : tie.Need-at-requires
 at-requires c κs = search rules
 
-cast-out-2 : tie.Need-overflow-cast-out-2
-cast-out-2 c = omega (arith, read c (3 * (start c).args.k + 2), c.at.ensures)
+overflow_cast-out-2 : tie.Need-overflow_cast-out-2
+overflow_cast-out-2 c = omega (arith, read c (3 * (start c).args.k + 2), c.at.ensures)
 
-mul-out-3 : tie.Need-overflow-mul-out-3
-mul-out-3 c = search rules
+overflow_mul-out-2 : tie.Need-overflow_mul-out-2
+overflow_mul-out-2 c = search rules
 
-add-out : tie.Need-overflow-add-out
-add-out c = search rules
+overflow_add-out : tie.Need-overflow_add-out
+overflow_add-out c = search rules
 
-mul-out-4 : tie.Need-overflow-mul-out-4
-mul-out-4 c = search rules
+offset_bounds-out-count-2 : tie.Need-offset_bounds-out-count-2
+offset_bounds-out-count-2 c = search rules
 
-slice-write-out-2 : tie.Need-slice-write-out-2
-slice-write-out-2 c = simp length-set (omega arith)
+bounds-out-count-2 : tie.Need-bounds-out-count-2
+bounds-out-count-2 c = simp length-set (omega arith)
 
-mul-at-2 : tie.Need-overflow-mul-at-2
-mul-at-2 c = search rules
+overflow_mul-k-2 : tie.Need-overflow_mul-k-2
+overflow_mul-k-2 c = search rules
 
 at-requires-2 : tie.Need-at-requires-2
 at-requires-2 c κs = search rules
 
-cast-out-3 : tie.Need-overflow-cast-out-3
-cast-out-3 c = omega (arith, read c.before (3 * (start c.before).args.k), c.at2.ensures)
+overflow_cast-out-3 : tie.Need-overflow_cast-out-3
+overflow_cast-out-3 c = omega (arith, read c.before (3 * (start c.before).args.k), c.at-2.ensures)
 
-mul-out-5 : tie.Need-overflow-mul-out-5
-mul-out-5 c = search rules
+overflow_mul-out-3 : tie.Need-overflow_mul-out-3
+overflow_mul-out-3 c = search rules
 
-add-out-2 : tie.Need-overflow-add-out-2
-add-out-2 c = search rules
+overflow_add-out-2 : tie.Need-overflow_add-out-2
+overflow_add-out-2 c = search rules
 
-mul-out-6 : tie.Need-overflow-mul-out-6
-mul-out-6 c = search rules
+offset_bounds-out-count-3 : tie.Need-offset_bounds-out-count-3
+offset_bounds-out-count-3 c = search rules
 
-slice-write-out-3 : tie.Need-slice-write-out-3
-slice-write-out-3 c = simp length-set (omega arith)
+bounds-out-count-3 : tie.Need-bounds-out-count-3
+bounds-out-count-3 c = simp length-set (omega arith)
 
-mul-at-3 : tie.Need-overflow-mul-at-3
-mul-at-3 c = search rules
+overflow_mul-k-3 : tie.Need-overflow_mul-k-3
+overflow_mul-k-3 c = search rules
 
-add-at-2 : tie.Need-overflow-add-at-2
-add-at-2 c = search rules
+overflow_add-k-2 : tie.Need-overflow_add-k-2
+overflow_add-k-2 c = search rules
 
 at-requires-3 : tie.Need-at-requires-3
 at-requires-3 c κs = search rules
 
-cast-out-4 : tie.Need-overflow-cast-out-4
-cast-out-4 c = omega (arith, read c.before.before (3 * (start c.before.before).args.k + 1), c.at3.ensures)
+overflow_cast-out-4 : tie.Need-overflow_cast-out-4
+overflow_cast-out-4 c = omega (arith, read c.before.before (3 * (start c.before.before).args.k + 1), c.at-3.ensures)
 
-mul-out-7 : tie.Need-overflow-mul-out-7
-mul-out-7 c = search rules
+overflow_mul-out-4 : tie.Need-overflow_mul-out-4
+overflow_mul-out-4 c = search rules
 
-add-out-3 : tie.Need-overflow-add-out-3
-add-out-3 c = search rules
+overflow_add-out-3 : tie.Need-overflow_add-out-3
+overflow_add-out-3 c = search rules
 
-mul-out-8 : tie.Need-overflow-mul-out-8
-mul-out-8 c = search rules
+offset_bounds-out-count-4 : tie.Need-offset_bounds-out-count-4
+offset_bounds-out-count-4 c = search rules
 
-slice-write-out-4 : tie.Need-slice-write-out-4
-slice-write-out-4 c = simp length-set (omega arith)
+bounds-out-count-4 : tie.Need-bounds-out-count-4
+bounds-out-count-4 c = simp length-set (omega arith)
 
-same_length : tie.Need-same-length
-same_length c = search rules
+shape_of-out : tie.Need-shape_of-out
+shape_of-out c = search rules
 
 returns : tie.Need-returns
-returns c =
-    let second = c.before in
-    let first = second.before in
-    let given = (start first).args in
-    claims-stored given.other.now _ _ _ first.at.ensures second.at2.ensures c.at3.ensures
+returns c = let given = (start c.before.before).args in
+    claims-stored given.other.now _ _ _ c.at.ensures c.at-2.ensures c.at-3.ensures
 
-pub claim-four-spec : {M : Type 1} → statement M
-claim-four-spec =
+pub claim_four_spec : {M : Type 1} → statement M
+claim_four_spec =
     tie.close
     (tie.spec
-    cast-out
-    mul-out
-    mul-out-2
-    slice-write-out
-    mul_at
-    add_at
+    overflow_cast-out
+    overflow_mul-out
+    offset_bounds-out-count
+    bounds-out-count
+    overflow_mul-k
+    overflow_add-k
     at-requires
-    cast-out-2
-    mul-out-3
-    add-out
-    mul-out-4
-    slice-write-out-2
-    mul-at-2
+    overflow_cast-out-2
+    overflow_mul-out-2
+    overflow_add-out
+    offset_bounds-out-count-2
+    bounds-out-count-2
+    overflow_mul-k-2
     at-requires-2
-    cast-out-3
-    mul-out-5
-    add-out-2
-    mul-out-6
-    slice-write-out-3
-    mul-at-3
-    add-at-2
+    overflow_cast-out-3
+    overflow_mul-out-3
+    overflow_add-out-2
+    offset_bounds-out-count-3
+    bounds-out-count-3
+    overflow_mul-k-3
+    overflow_add-k-2
     at-requires-3
-    cast-out-4
-    mul-out-7
-    add-out-3
-    mul-out-8
-    slice-write-out-4
-    same_length
+    overflow_cast-out-4
+    overflow_mul-out-4
+    overflow_add-out-3
+    offset_bounds-out-count-4
+    bounds-out-count-4
+    shape_of-out
     returns)

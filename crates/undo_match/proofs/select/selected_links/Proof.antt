@@ -25,133 +25,125 @@ unfolding three_of
 links-stored ring rank out k ne r p a q b s c = rw (a, b, c, p, q, s, r, three-stores) (stored ne)
 
 -- where the function begins
-abbrev start : tie.Else1 → tie.Start
+abbrev start : tie.Else-marks-k-eq0 → tie.Start
 start c = c.before.before.before.before.before.before
 
-mul-if1 : tie.Need-overflow-mul-if1
-mul-if1 c = search rules
+offset_bounds-marks-k : tie.Need-offset_bounds-marks-k
+offset_bounds-marks-k c = search rules
 
-shared-slice-read-if1 : tie.Need-shared-slice-read-if1
-shared-slice-read-if1 c = search rules
+bounds-marks-k : tie.Need-bounds-marks-k
+bounds-marks-k c = search rules
 
-returns : tie.Need-returns
-returns c = spared c.if1.true
+returns-then-marks-k-eq0 : tie.Need-returns-then-marks-k-eq0
+returns-then-marks-k-eq0 c = spared c.if-marks-k-eq0.true
+
+at-place-requires : tie.Need-at-place-requires
+at-place-requires c κs = search rules
+
+overflow_mul-place : tie.Need-overflow_mul-place
+overflow_mul-place c = search rules
+
+overflow_mul-k : tie.Need-overflow_mul-k
+overflow_mul-k c = search rules
 
 at-requires : tie.Need-at-requires
 at-requires c κs = search rules
 
-mul-place : tie.Need-overflow-mul-place
-mul-place c = search rules
+selected_half-requires : tie.Need-selected_half-requires
+selected_half-requires c κs = let from = start c.before.before in
+    rw c.at.ensures (from.requires.halves (3 * from.args.k) (omega arith) (omega arith))
 
-mul_at : tie.Need-overflow-mul-at
-mul_at c = search rules
+offset_bounds-out-place : tie.Need-offset_bounds-out-place
+offset_bounds-out-place c = search rules
+
+bounds-out-place : tie.Need-bounds-out-place
+bounds-out-place c = search rules
+
+overflow_mul-k-2 : tie.Need-overflow_mul-k-2
+overflow_mul-k-2 c = search rules
+
+overflow_add-k : tie.Need-overflow_add-k
+overflow_add-k c = search rules
 
 at-requires-2 : tie.Need-at-requires-2
 at-requires-2 c κs = search rules
 
-selected-half-requires : tie.Need-selected-half-requires
-selected-half-requires c κs =
-    let from = start c.before.before in
-    rw c.at2.ensures (from.pre.halves (3 * from.args.k) (omega arith) (omega arith))
+selected_half-requires-2 : tie.Need-selected_half-requires-2
+selected_half-requires-2 c κs = let from = start c.before.before.before.before in
+    rw c.at-2.ensures (from.requires.halves (3 * from.args.k + 1) (omega arith) (omega arith))
 
-mul-out : tie.Need-overflow-mul-out
-mul-out c = search rules
+overflow_add-out : tie.Need-overflow_add-out
+overflow_add-out c = search rules
 
-slice-write-out : tie.Need-slice-write-out
-slice-write-out c = search rules
+offset_bounds-out-place-2 : tie.Need-offset_bounds-out-place-2
+offset_bounds-out-place-2 c = search rules
 
-mul-at-2 : tie.Need-overflow-mul-at-2
-mul-at-2 c = search rules
+bounds-out-place-2 : tie.Need-bounds-out-place-2
+bounds-out-place-2 c = simp length-set (omega arith)
 
-add_at : tie.Need-overflow-add-at
-add_at c = search rules
+overflow_mul-k-3 : tie.Need-overflow_mul-k-3
+overflow_mul-k-3 c = search rules
+
+overflow_add-k-2 : tie.Need-overflow_add-k-2
+overflow_add-k-2 c = search rules
 
 at-requires-3 : tie.Need-at-requires-3
 at-requires-3 c κs = search rules
 
-selected-half-requires-2 : tie.Need-selected-half-requires-2
-selected-half-requires-2 c κs =
-    let from = start c.before.before.before.before in
-    rw c.at3.ensures (from.pre.halves (3 * from.args.k + 1) (omega arith) (omega arith))
+selected_half-requires-3 : tie.Need-selected_half-requires-3
+selected_half-requires-3 c κs = let from = start c.before.before.before.before.before.before in
+    rw c.at-3.ensures (from.requires.halves (3 * from.args.k + 2) (omega arith) (omega arith))
 
-add-out : tie.Need-overflow-add-out
-add-out c = search rules
+overflow_add-out-2 : tie.Need-overflow_add-out-2
+overflow_add-out-2 c = search rules
 
-mul-out-2 : tie.Need-overflow-mul-out-2
-mul-out-2 c = search rules
+offset_bounds-out-place-3 : tie.Need-offset_bounds-out-place-3
+offset_bounds-out-place-3 c = search rules
 
-slice-write-out-2 : tie.Need-slice-write-out-2
-slice-write-out-2 c = simp length-set (omega arith)
+bounds-out-place-3 : tie.Need-bounds-out-place-3
+bounds-out-place-3 c = simp length-set (omega arith)
 
-mul-at-3 : tie.Need-overflow-mul-at-3
-mul-at-3 c = search rules
+shape_of-out : tie.Need-shape_of-out
+shape_of-out c = search rules
 
-add-at-2 : tie.Need-overflow-add-at-2
-add-at-2 c = search rules
+returns : tie.Need-returns
+returns c = let given = (start c.before.before.before.before.before.before.before).args in
+    links-stored given.ring.now given.rank.now _ given.k c.if-marks-k-eq0.false
+    c.at-place.ensures
+    c.at.ensures
+    c.selected_half.ensures
+    c.at-2.ensures
+    c.selected_half-2.ensures
+    c.at-3.ensures
+    c.selected_half-3.ensures
 
-at-requires-4 : tie.Need-at-requires-4
-at-requires-4 c κs = search rules
-
-selected-half-requires-3 : tie.Need-selected-half-requires-3
-selected-half-requires-3 c κs =
-    let from = start c.before.before.before.before.before.before in
-    rw c.at4.ensures (from.pre.halves (3 * from.args.k + 2) (omega arith) (omega arith))
-
-add-out-2 : tie.Need-overflow-add-out-2
-add-out-2 c = search rules
-
-mul-out-3 : tie.Need-overflow-mul-out-3
-mul-out-3 c = search rules
-
-slice-write-out-3 : tie.Need-slice-write-out-3
-slice-write-out-3 c = simp length-set (omega arith)
-
-same_length : tie.Need-same-length
-same_length c = search rules
-
-returns-2 : tie.Need-returns-2
-returns-2 c =
-    let third = c.before in
-    let second = third.before.before in
-    let first = second.before.before in
-    let ranked = first.before in
-    let given = (start ranked.before).args in
-    links-stored given.ring.now given.rank.now _ given.k ranked.before.if1.false
-    ranked.at.ensures
-    first.at2.ensures
-    second.before.selected-half.ensures
-    second.at3.ensures
-    third.before.selected-half2.ensures
-    third.at4.ensures
-    c.selected-half3.ensures
-
-pub selected-links-spec : {M : Type 1} → statement M
-selected-links-spec =
+pub selected_links_spec : {M : Type 1} → statement M
+selected_links_spec =
     tie.close
     (tie.spec
-    mul-if1
-    shared-slice-read-if1
-    returns
+    offset_bounds-marks-k
+    bounds-marks-k
+    returns-then-marks-k-eq0
+    at-place-requires
+    overflow_mul-place
+    overflow_mul-k
     at-requires
-    mul-place
-    mul_at
+    selected_half-requires
+    offset_bounds-out-place
+    bounds-out-place
+    overflow_mul-k-2
+    overflow_add-k
     at-requires-2
-    selected-half-requires
-    mul-out
-    slice-write-out
-    mul-at-2
-    add_at
+    selected_half-requires-2
+    overflow_add-out
+    offset_bounds-out-place-2
+    bounds-out-place-2
+    overflow_mul-k-3
+    overflow_add-k-2
     at-requires-3
-    selected-half-requires-2
-    add-out
-    mul-out-2
-    slice-write-out-2
-    mul-at-3
-    add-at-2
-    at-requires-4
-    selected-half-requires-3
-    add-out-2
-    mul-out-3
-    slice-write-out-3
-    same_length
-    returns-2)
+    selected_half-requires-3
+    overflow_add-out-2
+    offset_bounds-out-place-3
+    bounds-out-place-3
+    shape_of-out
+    returns)

@@ -1,0 +1,47 @@
+-- `index_read::corners::write_corner` meets its contract: a corner is stored, and where the run is none nothing is.
+use native.Mathlib.Omega.{arith}
+use Prim.Native.Nat.{ℕ, ◌<◌}
+use mathlib.Core.Path.{◌≡◌, refl}
+use mathlib.Core.Logic.{inl, inr}
+use mathlib.Core.List.{List, [], ◌∷◌}
+use lib.ListN.{length, set}
+use types.Run.{OneOf}
+use denote.Enum.Declared.{tag_of}
+use borrow.Author.Rules.{rules}
+use Rattle.theory.specs.Index.{corners_said}
+use Rattle.index_read.specs.Faces.{CornerLent, corner_written}
+use Rattle.index_read.specs.declared.runs.Run.{Run}
+use Rattle.index_read.specs.declared.runs.Run.TheVariants as run
+use Rattle.index_read.specs.contracts.runs.Run as declared
+use Rattle.index_read.proofs.corners.write_corner.Goals as goal
+
+module _ (out : List ℕ) (k : ℕ) where
+  -- a run of another kind than the first is no corner
+  none_written : (answer : Run) → OneOf (1 ∷ 2 ∷ []) (tag_of declared.the_type answer) → out ≡ corner_written answer out k
+  unfolding corners_said
+  none_written (run.Corner value end) (inl e) = absurd (omega (arith, e))
+  none_written (run.Corner value end) (inr e) = absurd (omega (arith, e))
+  none_written (run.Close end) o = refl
+  none_written run.Wrong o = refl
+
+  -- there is an entry for a corner
+  entry-there : {value end : ℕ} {answer : Run} → CornerLent answer out k → answer ≡ run.Corner value end
+      → k < length out
+  unfolding corners_said
+  entry-there lent e = omega (arith, rw e at lent.room)
+
+  -- a corner is stored
+  corner-written : {value end : ℕ} {answer : Run} → answer ≡ run.Corner value end
+      → set out k value ≡ corner_written answer out k
+  unfolding corners_said
+  corner-written e = rw e
+
+pub returns-in_default : goal.returns-in_default
+returns-in_default c = let args = c.args in
+    none_written args.out.now args.k args.run c.in_default.in_default-own.keys2
+
+pub bounds-out-k : goal.bounds-out-k
+bounds-out-k c = entry-there _ _ c.requires c.in-Corner.is
+
+pub returns : goal.returns
+returns c = corner-written _ _ c.in-Corner.is

@@ -1,0 +1,41 @@
+-- `split::number_all` meets its contract. The loop's invariant, for every list that the rings are those of: of the
+-- edges that appear before h, all half-edges below h have the edge's number, and so has the next one; the first
+-- half-edge of any other edge has none. The measure is what is left of the half-edges.
+use native.Mathlib.Omega.{arith}
+use Prim.Native.Nat.{ℕ, ◌+◌, ◌-◌, ◌≤◌, ◌<◌}
+use mathlib.Core.Path.{◌≡◌, ◌∙◌, refl, sym, ap}
+use mathlib.Core.Logic.{◌≢◌}
+use mathlib.Core.List.{List}
+use lib.ListN.{length, length-set, set}
+use Rattle.theory.specs.Mesh.{at}
+use Rattle.theory.specs.Counting.{count}
+use Rattle.theory.specs.Splitting.{first_on, is_first, edge_no}
+use Rattle.theory.proofs.Counting.{count-le}
+use Rattle.theory.proofs.Splitting.{first_on-le}
+use Rattle.lists.proofs.Lists.{by-eq, at_set}
+use Rattle.mesh_rings.specs.Ring.{FollowsBy, RingBy}
+use Rattle.split.specs.Numbers.{NumberLent, Numbered, UnnumberedLent, OneLent, OneNumbered, next, same}
+use Rattle.split.proofs.Numbering.{edge_no-first, edge_no-own, edge_no-given, first_on-own, counted, uncounted}
+use Rattle.split.proofs.Numbering.{edges-all, follows_next}
+use Rattle.split.proofs.number_all.Given as goal
+
+-- Of the edges of T that appear before h, half-edge g has the number if it is below h or the next on its edge from h
+-- on; the first on any other edge has none; E edges appear before h.
+pub record Handed (N n : ℕ) (T numbers : List ℕ) (E h : ℕ) : Type 0 where
+  pub given : (g : ℕ) → g < n → first_on T g < h → ((f : ℕ) → h ≤ f → f < g → first_on T f ≡ first_on T g → ⊥)
+      → at numbers g ≡ edge_no N T g
+  pub none : (g : ℕ) → h ≤ g → g < n → first_on T g ≡ g → at numbers g ≡ N + n
+  pub total : E ≡ count (is_first T) h
+
+-- The same of every list that the rings are those of, and what the loop is lent.
+pub record Turn (N n : ℕ) (ring numbers₀ numbers : List ℕ) (E h : ℕ) : Type 0 where
+  pub lent : NumberLent N n ring numbers₀
+  pub within : h ≤ n
+  pub long : length numbers ≡ length numbers₀
+  pub handed : (T : List ℕ) → length T ≡ n → RingBy n (first_on T) ring → Handed N n T numbers E h
+
+abbrev pub invariant-loop-h : goal.invariant-loop-h
+invariant-loop-h l = Turn l.vertices l.halves l.ring l.initial.numbers l.numbers l.edges l.h
+
+abbrev pub decreases-loop-h : goal.decreases-loop-h
+decreases-loop-h l = l.halves - l.h
