@@ -8,7 +8,7 @@ use super::ends::take_end;
 use super::numbers::{Cursor, Number, Step, take_kind, take_number, too_few};
 
 // The first frame: the counts of the mesh, and the cursor after it.
-#[derive(Drop)]
+#[derive(Clone, Copy)]
 pub enum MeshFrame {
     Holds {
         vertices: u16,
@@ -19,7 +19,7 @@ pub enum MeshFrame {
 }
 
 // A triangle's frame: its corners, and the cursor after it.
-#[derive(Drop)]
+#[derive(Clone, Copy)]
 pub enum TriangleFrame {
     Holds {
         a: u16,

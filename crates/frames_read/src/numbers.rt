@@ -6,20 +6,20 @@ ghost use Rattle.frames_read.specs.Parts.{TooFew, DigitsLeft, KindLeft, number_o
 use super::digits::digit_value;
 
 // Where to read on.
-#[derive(Drop)]
+#[derive(Clone, Copy)]
 pub struct Cursor {
     pub at: usize,
 }
 
 // What stands at a cursor, read as a number: it with the cursor after it.
-#[derive(Drop)]
+#[derive(Clone, Copy)]
 pub enum Number {
     Holds { value: u16, cursor: Cursor },
     Wrong,
 }
 
 // What stands at a cursor, where one thing only is right: the cursor after it.
-#[derive(Drop)]
+#[derive(Clone, Copy)]
 pub enum Step {
     Holds(Cursor),
     Wrong,

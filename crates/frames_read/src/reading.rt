@@ -9,7 +9,7 @@ use super::numbers::Cursor;
 use lists::write_three;
 
 // What frames are read as: a mesh, by its counts, or a refusal.
-#[derive(Drop)]
+#[derive(Clone, Copy)]
 pub enum Verdict {
     Mesh { vertices: usize, triangles: usize },
     Refused { number: u64, place: u64 },

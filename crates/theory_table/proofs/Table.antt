@@ -48,6 +48,7 @@ rows_test (row ∷ rows) =
 -- then each row's result satisfies the call's promise
 rows_test-sound : (rows : List Row) → So (rows_test rows) → (row : Row) → Member row rows → Satisfied row
 unfolding rows_test
+rows_test-sound [] t other x'' = elim x'' [ ]
 rows_test-sound (row ∷ rows) t other (first e) =
     rw e (row_test-sound row (and_sound (row_test row) (rows_test rows) t).0)
 rows_test-sound (row ∷ rows) t other (later m) =

@@ -59,7 +59,6 @@ refusing-sizes {number} {N} {T} {out} {works} L n said =
     said refl refl
 
 -- ---- the mesh
-
 module _ {N : ℕ} {T out ring work1 work2 work3 work4 : List ℕ}
     (E : Enough N T out (ring ∷ work1 ∷ work2 ∷ work3 ∷ work4 ∷ [])) where
   -- the list has a whole number of triangles
@@ -146,167 +145,147 @@ module _ {N : ℕ} {T out ring work1 work2 work3 work4 : List ℕ}
         passed = judged-passed judged.verdict e (omega arith)
 
 -- ---- from each call to the one before
-
-abbrev sized-entry : tie.Else1 → tie.Start
+abbrev sized-entry : tie.Else-number-ne0 → tie.Start
 sized-entry c = c.before.before.before.before.before.before.before.before
 
-abbrev unrefused : tie.After-judge-arg5 → tie.Else1
+abbrev unrefused : tie.After-judge-arg-5-1 → tie.Else-number-ne0
 unrefused c = c.before.before.before.before.before
 
-abbrev judged : tie.After-struct-known → tie.After-judge
+abbrev judged : tie.After-struct_known-1 → tie.After-judge-verdict
 judged c = c.before.before.before.before.before.before.before.before.before.before.before
 
-abbrev left : tie.After-number-edges-arg2 → tie.Else2
-left c = c.before.before
+abbrev left : tie.After-number_edges-arg-1 → tie.Else-verdict-ne0
+left c = c.before
 
-abbrev numbered : tie.After-write-fours-arg2 → tie.After-number-edges
-numbered c = c.before.before.before.before
+abbrev numbered : tie.After-write_fours-arg-1 → tie.After-number_edges-edges
+numbered c = c.before.before.before
 
-abbrev writing : tie.After-count-boundary → tie.After-write-fours
-writing c = c.before.before.before.before
+abbrev writing : tie.After-count_boundary-boundary → tie.After-write_fours
+writing c = c.before.before.before
 
-abbrev counting : tie.After-accepted → tie.After-count-boundary
+abbrev counting : tie.After-accepted → tie.After-count_boundary-boundary
 counting c = c.before.before
 
-abbrev judging : tie.After-accepted → tie.After-judge
+abbrev judging : tie.After-accepted → tie.After-judge-verdict
 judging c = judged (left (numbered (writing (counting c)).before).before).before
 
 -- past the first test, sizes and room are enough
-ready : (c : tie.Else1)
+ready : (c : tie.Else-number-ne0)
     → let a = (sized-entry c).args in
     Enough a.vertices a.list.now a.out.now
     (a.ring.now ∷ a.work1.now ∷ a.work2.now ∷ a.work3.now ∷ a.work4.now ∷ [])
-ready c = enough (judged-passed (sized-entry c).requires.judged c.if1.false (omega arith))
+ready c = enough (judged-passed (sized-entry c).requires.judged c.if-number-ne0.false (omega arith))
 
 -- ---- the answers
-
 refused-requires : tie.Need-refused-requires
 refused-requires c κs = tt
 
-returns : tie.Need-returns
-returns c =
-    let s = c.before.before.before.before.before.before.before.before.before in
-    refusing-sizes s.requires c.before.if1.true c.refused.ensures
+returns-then-number-ne0 : tie.Need-returns-then-number-ne0
+returns-then-number-ne0 c = refusing-sizes c.requires c.if-number-ne0.true c.refused.ensures
 
-judge-requires : tie.Need-judge-requires
-judge-requires c κs = judgeable (ready (unrefused c))
+judge-verdict-requires : tie.Need-judge-verdict-requires
+judge-verdict-requires c κs = judgeable (ready (unrefused c))
 
-refused-requires-2 : tie.Need-refused-requires-2
-refused-requires-2 c κs = tt
+refused-requires-then-verdict-ne0 : tie.Need-refused-requires-then-verdict-ne0
+refused-requires-then-verdict-ne0 c κs = tt
 
-same_length : tie.Need-same-length
-same_length c = (judged c.before.before).judge.auto.1.1.1.0
+shape_of-ring-then-verdict-ne0 : tie.Need-shape_of-ring-then-verdict-ne0
+shape_of-ring-then-verdict-ne0 c = (judged c.before.before).judge-verdict.auto.ring
 
-same-length-2 : tie.Need-same-length-2
-same-length-2 c = (judged c.before.before).judge.auto.1.1.1.1.0
+shape_of-work1-then-verdict-ne0 : tie.Need-shape_of-work1-then-verdict-ne0
+shape_of-work1-then-verdict-ne0 c = (judged c.before.before).judge-verdict.auto.work1
 
-same-length-3 : tie.Need-same-length-3
-same-length-3 c = (judged c.before.before).judge.auto.1.1.1.1.1.0
+shape_of-work2-then-verdict-ne0 : tie.Need-shape_of-work2-then-verdict-ne0
+shape_of-work2-then-verdict-ne0 c = (judged c.before.before).judge-verdict.auto.work2
 
-same-length-4 : tie.Need-same-length-4
-same-length-4 c = (judged c.before.before).judge.auto.1.1.1.1.1.1.0
+shape_of-work3-then-verdict-ne0 : tie.Need-shape_of-work3-then-verdict-ne0
+shape_of-work3-then-verdict-ne0 c = (judged c.before.before).judge-verdict.auto.work3
 
-same-length-5 : tie.Need-same-length-5
-same-length-5 c = (judged c.before.before).judge.auto.1.1.1.1.1.1.1.0
+shape_of-work4-then-verdict-ne0 : tie.Need-shape_of-work4-then-verdict-ne0
+shape_of-work4-then-verdict-ne0 c = (judged c.before.before).judge-verdict.auto.work4
 
-returns-2 : tie.Need-returns-2
-returns-2 c =
-    let j = judged c.before.before in
-    refusing (ready (unrefused j.before)) j.judge.ensures c.before.if2.true c.refused2.ensures
+returns-then-verdict-ne0 : tie.Need-returns-then-verdict-ne0
+returns-then-verdict-ne0 c = refusing (ready (unrefused c.before.before.before.before.before.before.before.before.before.before.before.before.before.before)) c.judge-verdict.ensures c.if-verdict-ne0.true c.refused-then-verdict-ne0.ensures
 
-mul-number-edges : tie.Need-overflow-mul-number-edges
-mul-number-edges c = omega (arith, (ready (unrefused (judged c.before).before)).sizes.few)
+overflow_mul-triangles : tie.Need-overflow_mul-triangles
+overflow_mul-triangles c = omega (arith, (ready (unrefused (judged c.before).before)).sizes.few)
 
-number-edges-requires : tie.Need-number-edges-requires
-number-edges-requires c κs =
-    let l = left c in
-    let j = judged l.before in
-    let kept = j.judge.kept.1.1.1 in
-    numberable (ready (unrefused j.before)) (j.judge.ensures.ringed l.if2.left) kept.0 kept.1.0
+number_edges-edges-requires : tie.Need-number_edges-edges-requires
+number_edges-edges-requires c κs = numberable (ready (unrefused c.before.before.before.before.before.before.before.before.before.before.before.before.before.before)) (c.judge-verdict.ensures.ringed c.if-verdict-ne0.false) c.judge-verdict.auto.ring c.judge-verdict.auto.work1
 
-write-fours-requires : tie.Need-write-fours-requires
-write-fours-requires c κs =
-    let n = numbered c in
-    let j = judged (left n.before).before in
-    writable (ready (unrefused j.before)) (n.number-edges.kept.1.1.1.0 ∙ j.judge.kept.1.1.1.1.0)
+write_fours-requires : tie.Need-write_fours-requires
+write_fours-requires c κs = let j = judged (left c.before.before.before.before).before in
+    writable (ready (unrefused j.before)) (c.number_edges-edges.auto.numbers ∙ j.judge.auto.1.1.1.1.0)
 
-mul-count-boundary : tie.Need-overflow-mul-count-boundary
-mul-count-boundary c =
-    let n = numbered c.before.before.before.before in
-    let j = judged (left n.before).before in
+overflow_mul-triangles-2 : tie.Need-overflow_mul-triangles-2
+overflow_mul-triangles-2 c = let j = judged (left c.before.before.before.before.before.before.before).before in
     omega (arith, (ready (unrefused j.before)).sizes.few)
 
-count-boundary-requires : tie.Need-count-boundary-requires
-count-boundary-requires c κs =
-    let n = numbered c.before.before.before.before in
-    let j = judged (left n.before).before in
-    countable (ready (unrefused j.before)) j.judge.kept.1.1.1.0
+count_boundary-boundary-requires : tie.Need-count_boundary-boundary-requires
+count_boundary-boundary-requires c κs = let j = judged (left c.before.before.before.before.before.before.before).before in
+    countable (ready (unrefused j.before)) j.judge.auto.1.1.1.0
 
-split-counts-requires : tie.Need-split-counts-requires
-split-counts-requires c κs =
-    let n = numbered (writing c).before in
+split_counts-requires : tie.Need-split_counts-requires
+split_counts-requires c κs = let n = numbered (writing c).before in
     let l = left n.before in
     let j = judged l.before in
     splittable (ready (unrefused j.before)) (j.judge.ensures.ringed l.if2.left) n.number-edges.ensures
-    c.count-boundary.ensures
+    c.count_boundary-boundary.ensures
 
 accepted-requires : tie.Need-accepted-requires
 accepted-requires c κs = tt
 
-same-length-6 : tie.Need-same-length-6
-same-length-6 c = (writing (counting c)).write-fours.auto.1.1.1.0
+shape_of-out : tie.Need-shape_of-out
+shape_of-out c = (writing (counting c)).write_fours.auto.out
 
-same-length-7 : tie.Need-same-length-7
-same-length-7 c = (judging c).judge.auto.1.1.1.0
+shape_of-ring : tie.Need-shape_of-ring
+shape_of-ring c = (judging c).judge-verdict.auto.ring
 
-same-length-8 : tie.Need-same-length-8
-same-length-8 c =
-    (numbered (writing (counting c)).before).number-edges.auto.1.1.1.0 ∙ (judging c).judge.auto.1.1.1.1.0
+shape_of-work1 : tie.Need-shape_of-work1
+shape_of-work1 c = (numbered (writing (counting c)).before).number_edges-edges.auto.numbers ∙ (judging c).judge-verdict.auto.work1
 
-same-length-9 : tie.Need-same-length-9
-same-length-9 c = (judging c).judge.auto.1.1.1.1.1.0
+shape_of-work2 : tie.Need-shape_of-work2
+shape_of-work2 c = (judging c).judge-verdict.auto.work2
 
-same-length-10 : tie.Need-same-length-10
-same-length-10 c = (judging c).judge.auto.1.1.1.1.1.1.0
+shape_of-work3 : tie.Need-shape_of-work3
+shape_of-work3 c = (judging c).judge-verdict.auto.work3
 
-same-length-11 : tie.Need-same-length-11
-same-length-11 c = (judging c).judge.auto.1.1.1.1.1.1.1.0
+shape_of-work4 : tie.Need-shape_of-work4
+shape_of-work4 c = (judging c).judge-verdict.auto.work4
 
-returns-3 : tie.Need-returns-3
-returns-3 c =
-    let b = counting c in
-    let w = writing b in
+returns : tie.Need-returns
+returns c = let w = writing (counting c) in
     let n = numbered w.before in
     let l = left n.before in
     let j = judged l.before in
     accepting (ready (unrefused j.before)) j.judge.ensures l.if2.left n.number-edges.ensures
-    w.write-fours.ensures b.count-boundary.ensures c.before.split-counts.ensures c.accepted.ensures
+    w.write-fours.ensures c.count_boundary-boundary.ensures c.split_counts.ensures c.accepted.ensures
 
-pub split-mesh-spec : {M : Type 1} → statement M
-split-mesh-spec =
+pub split_mesh_spec : {M : Type 1} → statement M
+split_mesh_spec =
     tie.close
     (tie.spec
     refused-requires
-    returns
-    judge-requires
-    refused-requires-2
-    same_length
-    same-length-2
-    same-length-3
-    same-length-4
-    same-length-5
-    returns-2
-    mul-number-edges
-    number-edges-requires
-    write-fours-requires
-    mul-count-boundary
-    count-boundary-requires
-    split-counts-requires
+    returns-then-number-ne0
+    judge-verdict-requires
+    refused-requires-then-verdict-ne0
+    shape_of-ring-then-verdict-ne0
+    shape_of-work1-then-verdict-ne0
+    shape_of-work2-then-verdict-ne0
+    shape_of-work3-then-verdict-ne0
+    shape_of-work4-then-verdict-ne0
+    returns-then-verdict-ne0
+    overflow_mul-triangles
+    number_edges-edges-requires
+    write_fours-requires
+    overflow_mul-triangles-2
+    count_boundary-boundary-requires
+    split_counts-requires
     accepted-requires
-    same-length-6
-    same-length-7
-    same-length-8
-    same-length-9
-    same-length-10
-    same-length-11
-    returns-3)
+    shape_of-out
+    shape_of-ring
+    shape_of-work1
+    shape_of-work2
+    shape_of-work3
+    shape_of-work4
+    returns)

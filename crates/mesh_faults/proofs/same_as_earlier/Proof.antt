@@ -80,7 +80,7 @@ overflow_mul-triangles-2 : tie.Need-overflow_mul-triangles-2
 overflow_mul-triangles-2 c = search rules
 
 least_twin-requires : tie.Need-least_twin-requires
-least_twin-requires c κs = searchable (entry (made c)).requires c.third_vertices.ensures c.third_vertices.kept.1.1.0
+least_twin-requires c κs = searchable (entry (made c)).requires c.third_vertices.ensures c.third_vertices.auto.thirds
     c.fill.ensures
 
 shape_of-thirds : tie.Need-shape_of-thirds
@@ -90,8 +90,7 @@ shape_of-stamp : tie.Need-shape_of-stamp
 shape_of-stamp c = search rules
 
 returns : tie.Need-returns
-returns c = let t = made c.before.before.before in
-    placed (entry t).requires t.third-vertices.ensures c.least_twin.ensures
+returns c = placed (entry (made c.before.before.before)).requires c.third_vertices.ensures c.least_twin.ensures
 
 pub same_as_earlier_spec : {M : Type 1} → statement M
 same_as_earlier_spec =

@@ -40,7 +40,6 @@ connectable {N} {F} {T} L passed ringed a b c d =
     }
 
 -- ---- whose verdict is the answer
-
 module _ {N F : ℕ} {T ring : List ℕ} {number place : ℕ} where
   -- 6 and 7, where they are not passed
   of-corners : Judged (corner_rules N T) number place → number ≢ 0 → MeshJudged N F T ring number place
@@ -70,115 +69,102 @@ module _ {N F : ℕ} {T ring : List ℕ} {number place : ℕ} where
       }
 
 -- ---- from each call to the one before
-
-abbrev corners : tie.Else1 → tie.After-judge-corners
+abbrev corners : tie.Else-v-ne0 → tie.After-judge_corners-v
 corners c = c.before.before
 
-abbrev entry : tie.After-judge-corners → tie.Start
+abbrev entry : tie.After-judge_corners-v → tie.Start
 entry c = c.before.before.before.before.before.before.before
 
-abbrev left1 : tie.After-judge-triangles-arg5 → tie.Else1
+abbrev left1 : tie.After-judge_triangles-arg-5-1 → tie.Else-v-ne0
 left1 c = c.before.before.before.before.before
 
-abbrev judged : tie.After-struct-known2 → tie.After-judge-triangles
+abbrev judged : tie.After-struct_known-2-1 → tie.After-judge_triangles-v
 judged c = c.before.before.before.before.before.before.before.before.before.before.before
 
-abbrev left2 : tie.After-judge-connected-arg4 → tie.Else2
-left2 c = c.before.before.before.before
+abbrev left2 : tie.After-judge_connected-arg-3-1 → tie.Else-v-ne0-2
+left2 c = c.before.before.before
 
-abbrev connected : tie.After-slice-known13 → tie.After-judge-connected
+abbrev connected : tie.After-slice_known-13-1 → tie.After-judge_connected
 connected c = c.before.before.before.before.before.before
 
-abbrev judging : tie.After-slice-known13 → tie.After-judge-triangles
+abbrev judging : tie.After-slice_known-13-1 → tie.After-judge_triangles-v
 judging c = judged (left2 (connected c).before).before
 
 -- ---- the answers
+judge_corners-v-requires : tie.Need-judge_corners-v-requires
+judge_corners-v-requires c κs = search rules
 
-judge-corners-requires : tie.Need-judge-corners-requires
-judge-corners-requires c κs = search rules
-
-returns : tie.Need-returns
-returns c = of-corners c.before.before.judge-corners.ensures c.if1.true
+returns-then-v-ne0 : tie.Need-returns-then-v-ne0
+returns-then-v-ne0 c = of-corners c.judge_corners-v.ensures c.if-v-ne0.true
 
 -- past the first test 6 and 7 are passed
-passed : (c : tie.Else1)
+passed : (c : tie.Else-v-ne0)
     → let s = entry (corners c) in
     Passed (corner_rules s.args.vertices s.args.list.now)
-passed c = judged-passed (corners c).judge-corners.ensures c.if1.false (omega arith)
+passed c = judged-passed (corners c).judge_corners-v.ensures c.if-v-ne0.false (omega arith)
 
-judge-triangles-requires : tie.Need-judge-triangles-requires
-judge-triangles-requires c κs =
-    let d = left1 c in
-    record { lent = (entry (corners d)).requires; corners = passed d }
+judge_triangles-v-requires : tie.Need-judge_triangles-v-requires
+judge_triangles-v-requires c κs = record { lent = (entry (corners (left1 c))).requires; corners = passed (left1 c) }
 
-same_length : tie.Need-same-length
-same_length c = (judged c.before).judge-triangles.auto.1.1.1.0
+shape_of-ring-then-v-ne0-2 : tie.Need-shape_of-ring-then-v-ne0-2
+shape_of-ring-then-v-ne0-2 c = (judged c.before).judge_triangles-v.auto.ring
 
-same-length-2 : tie.Need-same-length-2
-same-length-2 c = (judged c.before).judge-triangles.auto.1.1.1.1.0
+shape_of-work1-then-v-ne0-2 : tie.Need-shape_of-work1-then-v-ne0-2
+shape_of-work1-then-v-ne0-2 c = (judged c.before).judge_triangles-v.auto.work1
 
-same-length-3 : tie.Need-same-length-3
-same-length-3 c = (judged c.before).judge-triangles.auto.1.1.1.1.1.0
+shape_of-work2-then-v-ne0-2 : tie.Need-shape_of-work2-then-v-ne0-2
+shape_of-work2-then-v-ne0-2 c = (judged c.before).judge_triangles-v.auto.work2
 
-same-length-4 : tie.Need-same-length-4
-same-length-4 c = (judged c.before).judge-triangles.auto.1.1.1.1.1.1.0
+shape_of-work3-then-v-ne0-2 : tie.Need-shape_of-work3-then-v-ne0-2
+shape_of-work3-then-v-ne0-2 c = (judged c.before).judge_triangles-v.auto.work3
 
-same-length-5 : tie.Need-same-length-5
-same-length-5 c = (judged c.before).judge-triangles.auto.1.1.1.1.1.1.1.0
+shape_of-work4-then-v-ne0-2 : tie.Need-shape_of-work4-then-v-ne0-2
+shape_of-work4-then-v-ne0-2 c = (judged c.before).judge_triangles-v.auto.work4
 
-returns-2 : tie.Need-returns-2
-returns-2 c =
-    let t = judged c.before in
-    of-triangles (passed (left1 t.before)) t.judge-triangles.ensures c.if2.true
+returns-then-v-ne0-2 : tie.Need-returns-then-v-ne0-2
+returns-then-v-ne0-2 c = of-triangles (passed (left1 c.before.before.before.before.before.before.before.before.before.before.before.before.before)) c.judge_triangles-v.ensures c.if-v-ne0-2.true
 
-judge-connected-requires : tie.Need-judge-connected-requires
-judge-connected-requires c κs =
-    let t = judged (left2 c).before in
+judge_connected-requires : tie.Need-judge_connected-requires
+judge_connected-requires c κs = let t = judged (left2 c).before in
     let l = left1 t.before in
-    let kept = t.judge-triangles.kept.1.1.1 in
-    connectable (entry (corners l)).requires (passed l) t.judge-triangles.ensures.ringed kept.0 kept.1.0
-    kept.1.1.0 kept.1.1.1.0
+    connectable (entry (corners l)).requires (passed l) c.judge_triangles-v.ensures.ringed c.judge_triangles-v.auto.ring c.judge_triangles-v.auto.work1
+    c.judge_triangles-v.auto.work2 c.judge_triangles-v.auto.work3
 
-same-length-6 : tie.Need-same-length-6
-same-length-6 c = (judging c).judge-triangles.auto.1.1.1.0
+shape_of-ring : tie.Need-shape_of-ring
+shape_of-ring c = (judging c).judge_triangles-v.auto.ring
 
-same-length-7 : tie.Need-same-length-7
-same-length-7 c = (connected c).judge-connected.auto.1.1.0 ∙ (judging c).judge-triangles.auto.1.1.1.1.0
+shape_of-work1 : tie.Need-shape_of-work1
+shape_of-work1 c = (connected c).judge_connected.auto.marks ∙ (judging c).judge_triangles-v.auto.work1
 
-same-length-8 : tie.Need-same-length-8
-same-length-8 c = (connected c).judge-connected.auto.1.1.1.0 ∙ (judging c).judge-triangles.auto.1.1.1.1.1.0
+shape_of-work2 : tie.Need-shape_of-work2
+shape_of-work2 c = (connected c).judge_connected.auto.queue ∙ (judging c).judge_triangles-v.auto.work2
 
-same-length-9 : tie.Need-same-length-9
-same-length-9 c =
-    (connected c).judge-connected.auto.1.1.1.1.0 ∙ (judging c).judge-triangles.auto.1.1.1.1.1.1.0
+shape_of-work3 : tie.Need-shape_of-work3
+shape_of-work3 c = (connected c).judge_connected.auto.opened ∙ (judging c).judge_triangles-v.auto.work3
 
-same-length-10 : tie.Need-same-length-10
-same-length-10 c = (judging c).judge-triangles.auto.1.1.1.1.1.1.1.0
+shape_of-work4 : tie.Need-shape_of-work4
+shape_of-work4 c = (judging c).judge_triangles-v.auto.work4
 
-returns-3 : tie.Need-returns-3
-returns-3 c =
-    let v = connected c in
-    let d = left2 v.before in
-    let t = judged d.before in
-    of-connected (passed (left1 t.before)) t.judge-triangles.ensures d.if2.left v.judge-connected.ensures
+returns : tie.Need-returns
+returns c = of-connected (passed (left1 c.before.before.before.before.before.before.before.before.before.before.before.before.before.before.before.before.before.before.before.before.before.before.before)) c.judge_triangles-v.ensures c.if-v-ne0-2.false c.judge_connected.ensures
 
-pub judge-spec : {M : Type 1} → statement M
-judge-spec =
+pub judge_spec : {M : Type 1} → statement M
+judge_spec =
     tie.close
     (tie.spec
-    judge-corners-requires
-    returns
-    judge-triangles-requires
-    same_length
-    same-length-2
-    same-length-3
-    same-length-4
-    same-length-5
-    returns-2
-    judge-connected-requires
-    same-length-6
-    same-length-7
-    same-length-8
-    same-length-9
-    same-length-10
-    returns-3)
+    judge_corners-v-requires
+    returns-then-v-ne0
+    judge_triangles-v-requires
+    shape_of-ring-then-v-ne0-2
+    shape_of-work1-then-v-ne0-2
+    shape_of-work2-then-v-ne0-2
+    shape_of-work3-then-v-ne0-2
+    shape_of-work4-then-v-ne0-2
+    returns-then-v-ne0-2
+    judge_connected-requires
+    shape_of-ring
+    shape_of-work1
+    shape_of-work2
+    shape_of-work3
+    shape_of-work4
+    returns)

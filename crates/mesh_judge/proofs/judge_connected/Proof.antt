@@ -68,63 +68,60 @@ module _ {T ring marks₀ queue opened : List ℕ} (L : ConnectLent T ring marks
         }
 
 -- ---- from each call to the one before
-
-abbrev entry : tie.After-reach-arg3 → tie.Start
+abbrev entry : tie.After-reach-arg-3-1 → tie.Start
 entry c = c.before.before.before.before.before.before.before.before
 
-abbrev reached : tie.After-first-zero → tie.After-reach
-reached c = c.before.before.before.before.before.before.before.before
+abbrev reached : tie.After-first_zero-k → tie.After-reach
+reached c = c.before.before.before.before.before.before.before
 
 -- ---- the answers
-
 reach-requires : tie.Need-reach-requires
 reach-requires c κs = reachable (entry c).requires
 
-first-zero-requires : tie.Need-first-zero-requires
-first-zero-requires c κs = search rules
+first_zero-k-requires : tie.Need-first_zero-k-requires
+first_zero-k-requires c κs = search rules
 
-same_length : tie.Need-same-length
-same_length c = search rules
+shape_of-marks-then-k-triangles : tie.Need-shape_of-marks-then-k-triangles
+shape_of-marks-then-k-triangles c = search rules
 
-same-length-2 : tie.Need-same-length-2
-same-length-2 c = search rules
+shape_of-queue-then-k-triangles : tie.Need-shape_of-queue-then-k-triangles
+shape_of-queue-then-k-triangles c = search rules
 
-same-length-3 : tie.Need-same-length-3
-same-length-3 c = search rules
+shape_of-opened-then-k-triangles : tie.Need-shape_of-opened-then-k-triangles
+shape_of-opened-then-k-triangles c = search rules
 
 -- what `first_zero` gives is the least place of 10
-least : (c : tie.After-first-zero)
+least : (c : tie.After-first_zero-k)
     → let T = (entry (reached c).before).args.list.now in
-    Place (NotConnected T) (triangles T) c.first-zero.result
-least c = placed (entry (reached c).before).requires (reached c).reach.ensures c.first-zero.ensures
+    Place (NotConnected T) (triangles T) c.first_zero-k.result
+least c = placed (entry (reached c).before).requires (reached c).reach.ensures c.first_zero-k.ensures
+
+returns-then-k-triangles : tie.Need-returns-then-k-triangles
+returns-then-k-triangles c = judged-found (least c.before) c.if-k-triangles.true
+
+shape_of-marks : tie.Need-shape_of-marks
+shape_of-marks c = search rules
+
+shape_of-queue : tie.Need-shape_of-queue
+shape_of-queue c = search rules
+
+shape_of-opened : tie.Need-shape_of-opened
+shape_of-opened c = search rules
 
 returns : tie.Need-returns
-returns c = judged-found (least c.before) c.if1.true
+returns c = judged-later (placeless-nowhere (λ k f. f.inside) (least c.before) c.if-k-triangles.false) judged-none
 
-same-length-4 : tie.Need-same-length-4
-same-length-4 c = search rules
-
-same-length-5 : tie.Need-same-length-5
-same-length-5 c = search rules
-
-same-length-6 : tie.Need-same-length-6
-same-length-6 c = search rules
-
-returns-2 : tie.Need-returns-2
-returns-2 c =
-    judged-later (placeless-nowhere (λ k f. f.inside) (least c.before) c.if1.false) judged-none
-
-pub judge-connected-spec : {M : Type 1} → statement M
-judge-connected-spec =
+pub judge_connected_spec : {M : Type 1} → statement M
+judge_connected_spec =
     tie.close
     (tie.spec
     reach-requires
-    first-zero-requires
-    same_length
-    same-length-2
-    same-length-3
-    returns
-    same-length-4
-    same-length-5
-    same-length-6
-    returns-2)
+    first_zero-k-requires
+    shape_of-marks-then-k-triangles
+    shape_of-queue-then-k-triangles
+    shape_of-opened-then-k-triangles
+    returns-then-k-triangles
+    shape_of-marks
+    shape_of-queue
+    shape_of-opened
+    returns)

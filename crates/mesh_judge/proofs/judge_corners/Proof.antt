@@ -26,30 +26,33 @@ module _ {F : ℕ} {T : List ℕ} (W : Whole F T) where
   all-different : {place : ℕ} → Place (EqualCorners T) F place → F ≤ place → Nowhere (EqualCorners T)
   all-different = placeless-nowhere (λ k f. on_below f.one)
 
-corner-not-below-requires : tie.Need-corner-not-below-requires
-corner-not-below-requires c κs = search rules
+corner_not_below-k-requires : tie.Need-corner_not_below-k-requires
+corner_not_below-k-requires c κs = search rules
 
-returns : tie.Need-returns
-returns c = judged-found c.before.corner-not-below.ensures c.if1.true
+returns-then-k-triangles : tie.Need-returns-then-k-triangles
+returns-then-k-triangles c = judged-found c.corner_not_below-k.ensures c.if-k-triangles.true
 
-equal-corners-requires : tie.Need-equal-corners-requires
-equal-corners-requires c κs = search rules
+equal_corners-k-requires : tie.Need-equal_corners-k-requires
+equal_corners-k-requires c κs = search rules
 
 -- past the first test 6 is given nowhere
-passed : (c : tie.Else1)
-    → Nowhere (CornerNotBelow c.before.before.before.args.vertices c.before.before.before.args.list.now)
-passed c = all-below c.before.before.before.requires c.before.corner-not-below.ensures c.if1.false
+passed : (c : tie.Else-k-triangles)
+    → Nowhere (CornerNotBelow c.args.vertices c.args.list.now)
+passed c = all-below c.requires c.corner_not_below-k.ensures c.if-k-triangles.false
 
-returns-2 : tie.Need-returns-2
-returns-2 c =
-    judged-later (passed c.before.before) (judged-found c.before.equal-corners.ensures c.if2.true)
+returns-then-k-triangles-2 : tie.Need-returns-then-k-triangles-2
+returns-then-k-triangles-2 c = judged-later (passed c.before.before) (judged-found c.equal_corners-k.ensures c.if-k-triangles-2.true)
 
-returns-3 : tie.Need-returns-3
-returns-3 c =
-    let start = c.before.before.before.before.before in
-    judged-later (passed c.before.before)
-    (judged-later (all-different start.requires c.before.equal-corners.ensures c.if2.false) judged-none)
+returns : tie.Need-returns
+returns c = judged-later (passed c.before.before)
+    (judged-later (all-different c.requires c.equal_corners-k.ensures c.if-k-triangles-2.false) judged-none)
 
-pub judge-corners-spec : {M : Type 1} → statement M
-judge-corners-spec =
-    tie.close (tie.spec corner-not-below-requires returns equal-corners-requires returns-2 returns-3)
+pub judge_corners_spec : {M : Type 1} → statement M
+judge_corners_spec =
+    tie.close
+    (tie.spec
+    corner_not_below-k-requires
+    returns-then-k-triangles
+    equal_corners-k-requires
+    returns-then-k-triangles-2
+    returns)

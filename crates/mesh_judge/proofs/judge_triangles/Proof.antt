@@ -87,142 +87,118 @@ module _ {N F : ℕ} {T ring work1 work2 work3 work4 : List ℕ}
         }
 
 -- ---- from each call to the one before
-
-abbrev entry : tie.After-ring-table-arg5 → tie.Start
+abbrev entry : tie.After-ring_table-arg-5-1 → tie.Start
 entry c = c.before.before.before.before.before.before.before.before.before.before.before
 
-abbrev made : tie.After-same-as-earlier-arg3 → tie.After-ring-table
-made c =
-    c.before.before.before.before.before.before.before.before.before.before.before.before.before
+abbrev made : tie.After-same_as_earlier-arg-2-1 → tie.After-ring_table
+made c = c.before.before.before.before.before.before.before.before.before.before.before.before
 
-abbrev searched : tie.After-slice-known12 → tie.After-same-as-earlier
+abbrev searched : tie.After-slice_known-12-1 → tie.After-same_as_earlier-k
 searched c = c.before.before.before.before
 
-abbrev table : tie.After-slice-known12 → tie.After-ring-table
+abbrev table : tie.After-slice_known-12-1 → tie.After-ring_table
 table c = made (searched c).before
 
-abbrev start : tie.After-slice-known12 → tie.Start
+abbrev start : tie.After-slice_known-12-1 → tie.Start
 start c = entry (table c).before
 
-abbrev left : tie.After-slice-known13 → tie.Else1
+abbrev left : tie.After-slice_known-13-1 → tie.Else-k-triangles
 left c = c.before.before.before.before
 
 -- ---- the answers
+ring_table-requires : tie.Need-ring_table-requires
+ring_table-requires c κs = joinable (entry c).requires
 
-ring-table-requires : tie.Need-ring-table-requires
-ring-table-requires c κs = joinable (entry c).requires
+same_as_earlier-k-requires : tie.Need-same_as_earlier-k-requires
+same_as_earlier-k-requires c κs = searchable (entry c.before.before.before.before.before.before.before.before.before.before.before.before.before).requires c.ring_table.auto.greater c.ring_table.auto.head c.ring_table.auto.ring c.ring_table.ensures
 
-same-as-earlier-requires : tie.Need-same-as-earlier-requires
-same-as-earlier-requires c κs =
-    let t = made c in
-    let kept = t.ring-table.kept.1.1.1 in
-    searchable (entry t.before).requires kept.0 kept.1.0 kept.1.1.1.1.0 t.ring-table.ensures
+shape_of-ring-then-k-triangles : tie.Need-shape_of-ring-then-k-triangles
+shape_of-ring-then-k-triangles c = (table c.before).ring_table.auto.ring
 
-same_length : tie.Need-same-length
-same_length c = (table c.before).ring-table.auto.1.1.1.1.1.1.1.0
+shape_of-work1-then-k-triangles : tie.Need-shape_of-work1-then-k-triangles
+shape_of-work1-then-k-triangles c = (searched c.before).same_as_earlier-k.auto.thirds ∙ (table c.before).ring_table.auto.greater
 
-same-length-2 : tie.Need-same-length-2
-same-length-2 c =
-    (searched c.before).same-as-earlier.auto.1.1.1.1.0 ∙ (table c.before).ring-table.auto.1.1.1.0
+shape_of-work2-then-k-triangles : tie.Need-shape_of-work2-then-k-triangles
+shape_of-work2-then-k-triangles c = (searched c.before).same_as_earlier-k.auto.stamp ∙ (table c.before).ring_table.auto.head
 
-same-length-3 : tie.Need-same-length-3
-same-length-3 c =
-    (searched c.before).same-as-earlier.auto.1.1.1.1.1.0 ∙ (table c.before).ring-table.auto.1.1.1.1.0
+shape_of-work3-then-k-triangles : tie.Need-shape_of-work3-then-k-triangles
+shape_of-work3-then-k-triangles c = (table c.before).ring_table.auto.stamp
 
-same-length-4 : tie.Need-same-length-4
-same-length-4 c = (table c.before).ring-table.auto.1.1.1.1.1.0
+shape_of-work4-then-k-triangles : tie.Need-shape_of-work4-then-k-triangles
+shape_of-work4-then-k-triangles c = (table c.before).ring_table.auto.last
 
-same-length-5 : tie.Need-same-length-5
-same-length-5 c = (table c.before).ring-table.auto.1.1.1.1.1.1.0
+returns-then-k-triangles : tie.Need-returns-then-k-triangles
+returns-then-k-triangles c = finds-same (start c.before).requires (table c.before).ring_table.ensures (searched c.before).same_as_earlier-k.ensures c.if-k-triangles.true
+
+in_no_triangle-v-requires : tie.Need-in_no_triangle-v-requires
+in_no_triangle-v-requires c κs = markable (start c.before.before).requires (table c.before.before).ring_table.auto.stamp
+
+shape_of-ring-then-v-vertices : tie.Need-shape_of-ring-then-v-vertices
+shape_of-ring-then-v-vertices c = (table (left c.before).before).ring_table.auto.ring
+
+shape_of-work1-then-v-vertices : tie.Need-shape_of-work1-then-v-vertices
+shape_of-work1-then-v-vertices c = let d = (left c.before).before in
+    (searched d).same_as_earlier-k.auto.thirds ∙ (table d).ring_table.auto.greater
+
+shape_of-work2-then-v-vertices : tie.Need-shape_of-work2-then-v-vertices
+shape_of-work2-then-v-vertices c = let d = (left c.before).before in
+    (searched d).same_as_earlier-k.auto.stamp ∙ (table d).ring_table.auto.head
+
+shape_of-work3-then-v-vertices : tie.Need-shape_of-work3-then-v-vertices
+shape_of-work3-then-v-vertices c = let d = (left c.before).before in
+    c.in_no_triangle-v.auto.marks ∙ (table d).ring_table.auto.stamp
+
+shape_of-work4-then-v-vertices : tie.Need-shape_of-work4-then-v-vertices
+shape_of-work4-then-v-vertices c = (table (left c.before).before).ring_table.auto.last
+
+returns-then-v-vertices : tie.Need-returns-then-v-vertices
+returns-then-v-vertices c = finds-unused (start c.before.before.before.before.before.before).requires (table c.before.before.before.before.before.before).ring_table.ensures (searched c.before.before.before.before.before.before).same_as_earlier-k.ensures c.if-k-triangles.false
+    c.in_no_triangle-v.ensures c.if-v-vertices.true
+
+shape_of-ring : tie.Need-shape_of-ring
+shape_of-ring c = (table (left c.before).before).ring_table.auto.ring
+
+shape_of-work1 : tie.Need-shape_of-work1
+shape_of-work1 c = let d = (left c.before).before in
+    (searched d).same_as_earlier-k.auto.thirds ∙ (table d).ring_table.auto.greater
+
+shape_of-work2 : tie.Need-shape_of-work2
+shape_of-work2 c = let d = (left c.before).before in
+    (searched d).same_as_earlier-k.auto.stamp ∙ (table d).ring_table.auto.head
+
+shape_of-work3 : tie.Need-shape_of-work3
+shape_of-work3 c = let d = (left c.before).before in
+    c.in_no_triangle-v.auto.marks ∙ (table d).ring_table.auto.stamp
+
+shape_of-work4 : tie.Need-shape_of-work4
+shape_of-work4 c = (table (left c.before).before).ring_table.auto.last
 
 returns : tie.Need-returns
-returns c =
-    let d = c.before in
-    finds-same (start d).requires (table d).ring-table.ensures (searched d).same-as-earlier.ensures c.if1.true
+returns c = finds-none (start c.before.before.before.before.before.before).requires (table c.before.before.before.before.before.before).ring_table.ensures (searched c.before.before.before.before.before.before).same_as_earlier-k.ensures c.if-k-triangles.false
+    c.in_no_triangle-v.ensures c.if-v-vertices.false
 
-in-no-triangle-requires : tie.Need-in-no-triangle-requires
-in-no-triangle-requires c κs =
-    let d = c.before.before in
-    markable (start d).requires (table d).ring-table.auto.1.1.1.1.1.0
-
-same-length-6 : tie.Need-same-length-6
-same-length-6 c = (table (left c.before).before).ring-table.auto.1.1.1.1.1.1.1.0
-
-same-length-7 : tie.Need-same-length-7
-same-length-7 c =
-    let d = (left c.before).before in
-    (searched d).same-as-earlier.kept.1.1.1.1.0 ∙ (table d).ring-table.kept.1.1.1.0
-
-same-length-8 : tie.Need-same-length-8
-same-length-8 c =
-    let d = (left c.before).before in
-    (searched d).same-as-earlier.kept.1.1.1.1.1.0 ∙ (table d).ring-table.kept.1.1.1.1.0
-
-same-length-9 : tie.Need-same-length-9
-same-length-9 c =
-    let d = (left c.before).before in
-    c.before.before.before.in-no-triangle.auto.1.1.1.0 ∙ (table d).ring-table.kept.1.1.1.1.1.0
-
-same-length-10 : tie.Need-same-length-10
-same-length-10 c = (table (left c.before).before).ring-table.auto.1.1.1.1.1.1.0
-
-returns-2 : tie.Need-returns-2
-returns-2 c =
-    let l = left c.before in
-    let d = l.before in
-    finds-unused (start d).pre (table d).ring-table.ensures (searched d).same-as-earlier.ensures l.if1.left
-    c.before.before.before.in-no-triangle.ensures c.if2.true
-
-same-length-11 : tie.Need-same-length-11
-same-length-11 c = (table (left c.before).before).ring-table.auto.1.1.1.1.1.1.1.0
-
-same-length-12 : tie.Need-same-length-12
-same-length-12 c =
-    let d = (left c.before).before in
-    (searched d).same-as-earlier.kept.1.1.1.1.0 ∙ (table d).ring-table.kept.1.1.1.0
-
-same-length-13 : tie.Need-same-length-13
-same-length-13 c =
-    let d = (left c.before).before in
-    (searched d).same-as-earlier.kept.1.1.1.1.1.0 ∙ (table d).ring-table.kept.1.1.1.1.0
-
-same-length-14 : tie.Need-same-length-14
-same-length-14 c =
-    let d = (left c.before).before in
-    c.before.before.before.in-no-triangle.auto.1.1.1.0 ∙ (table d).ring-table.kept.1.1.1.1.1.0
-
-same-length-15 : tie.Need-same-length-15
-same-length-15 c = (table (left c.before).before).ring-table.auto.1.1.1.1.1.1.0
-
-returns-3 : tie.Need-returns-3
-returns-3 c =
-    let l = left c.before in
-    let d = l.before in
-    finds-none (start d).pre (table d).ring-table.ensures (searched d).same-as-earlier.ensures l.if1.left
-    c.before.before.before.in-no-triangle.ensures c.if2.false
-
-pub judge-triangles-spec : {M : Type 1} → statement M
-judge-triangles-spec =
+pub judge_triangles_spec : {M : Type 1} → statement M
+judge_triangles_spec =
     tie.close
     (tie.spec
-    ring-table-requires
-    same-as-earlier-requires
-    same_length
-    same-length-2
-    same-length-3
-    same-length-4
-    same-length-5
-    returns
-    in-no-triangle-requires
-    same-length-6
-    same-length-7
-    same-length-8
-    same-length-9
-    same-length-10
-    returns-2
-    same-length-11
-    same-length-12
-    same-length-13
-    same-length-14
-    same-length-15
-    returns-3)
+    ring_table-requires
+    same_as_earlier-k-requires
+    shape_of-ring-then-k-triangles
+    shape_of-work1-then-k-triangles
+    shape_of-work2-then-k-triangles
+    shape_of-work3-then-k-triangles
+    shape_of-work4-then-k-triangles
+    returns-then-k-triangles
+    in_no_triangle-v-requires
+    shape_of-ring-then-v-vertices
+    shape_of-work1-then-v-vertices
+    shape_of-work2-then-v-vertices
+    shape_of-work3-then-v-vertices
+    shape_of-work4-then-v-vertices
+    returns-then-v-vertices
+    shape_of-ring
+    shape_of-work1
+    shape_of-work2
+    shape_of-work3
+    shape_of-work4
+    returns)

@@ -7,52 +7,46 @@ use Rattle.undo_stages.proofs.compare_all.Statement.{statement}
 use Rattle.undo_stages.proofs.compare_all.Tie as tie
 
 -- the function's start
-abbrev start : tie.After-write-fours → tie.Start
-start c = c.before.before.before.before.before.before.before.before.before
+abbrev start : tie.After-write_fours → tie.Start
+start c = c.before.before.before.before.before.before.before.before
 
-mul-write-fours : tie.Need-overflow-mul-write-fours
-mul-write-fours c = search rules
+overflow_mul-count : tie.Need-overflow_mul-count
+overflow_mul-count c = search rules
 
-slice-aggregate-write-fours : tie.Need-slice-aggregate-write-fours
-slice-aggregate-write-fours c = sym (coarse-whole c.before.before.before.before.before.before.before.requires)
+slice_bounds-write_fours-end : tie.Need-slice_bounds-write_fours-end
+slice_bounds-write_fours-end c = sym (coarse-whole c.requires)
 
-write-fours-requires : tie.Need-write-fours-requires
-write-fours-requires c κs = fours-lent c.before.before.before.before.before.before.before.before.requires
+write_fours-requires : tie.Need-write_fours-requires
+write_fours-requires c κs = fours-lent c.requires
 
-mul-compare : tie.Need-overflow-mul-compare
-mul-compare c = search rules
+overflow_mul-count-2 : tie.Need-overflow_mul-count-2
+overflow_mul-count-2 c = search rules
 
-slice-reshare-prefix-compare : tie.Need-slice-reshare-prefix-compare
-slice-reshare-prefix-compare c = search rules
+slice_bounds-compare-end : tie.Need-slice_bounds-compare-end
+slice_bounds-compare-end c = search rules
 
-slice-aggregate-compare : tie.Need-slice-aggregate-compare
-slice-aggregate-compare c =
-    let call = c.before.before.before in
-    sym (front-whole (start call).requires call.write-fours.ensures)
+slice_bounds-compare-end-2 : tie.Need-slice_bounds-compare-end-2
+slice_bounds-compare-end-2 c = sym (front-whole (start c.before.before).requires c.write_fours.ensures)
 
 compare-requires : tie.Need-compare-requires
-compare-requires c κs =
-    let call = c.before.before.before in
-    compare-lent (start call).requires call.write-fours.ensures
+compare-requires c κs = compare-lent (start c.before.before).requires c.write_fours.ensures
 
-same_length : tie.Need-same-length
-same_length c = search rules
+shape_of-splitting : tie.Need-shape_of-splitting
+shape_of-splitting c = search rules
 
 returns : tie.Need-returns
-returns c =
-    let call = c.before.before.before.before in
-    all-compared (start call).requires call.write-fours.ensures c.compare.ensures
+returns c = all-compared (start c.before.before.before).requires c.write_fours.ensures c.compare.ensures
 
-pub compare-all-spec : {M : Type 1} → statement M
-compare-all-spec =
+pub compare_all_spec : {M : Type 1} → statement M
+compare_all_spec =
     tie.close
     (tie.spec
-    mul-write-fours
-    slice-aggregate-write-fours
-    write-fours-requires
-    mul-compare
-    slice-reshare-prefix-compare
-    slice-aggregate-compare
+    overflow_mul-count
+    slice_bounds-write_fours-end
+    write_fours-requires
+    overflow_mul-count-2
+    slice_bounds-compare-end
+    slice_bounds-compare-end-2
     compare-requires
-    same_length
+    shape_of-splitting
     returns)

@@ -74,99 +74,85 @@ four-fits : {F n : ℕ} {rows marks kept : List ℕ} → 3 * F < 65536 → Selec
 four-fits {F} {marks = marks} l S = omega (arith, S.all, count-le (marked marks) F)
 
 -- ---- from each place to the one before
-
-abbrev entry : tie.After-start → tie.Start
+abbrev entry : tie.After-start-tile → tie.Start
 entry c = c.before.before.before.before.before.before.before.before
 
-abbrev started : tie.After-reach → tie.Else1
+abbrev started : tie.After-reach → tie.Else-tile-triangles
 started c = c.before.before.before.before
 
-abbrev marked_by : tie.After-select → tie.After-reach
-marked_by c = c.before.before.before.before.before.before.before.before.before
+abbrev marked_by : tie.After-select-count → tie.After-reach
+marked_by c = c.before.before.before.before.before.before.before.before
 
 -- ---- the answers
+start-tile-requires : tie.Need-start-tile-requires
+start-tile-requires c κs = startable c.requires
 
-start-requires : tie.Need-start-requires
-start-requires c κs =
-    let e = c.before.before.before.before.before.before.before in
-    startable e.requires
-
-returns : tie.Need-returns
-returns c = nowhere (sym c.before.start.ensures ∙ c.if1.true)
+returns-then-tile-triangles : tie.Need-returns-then-tile-triangles
+returns-then-tile-triangles c = nowhere (sym c.start-tile.ensures ∙ c.if-tile-triangles.true)
 
 reach-requires : tie.Need-reach-requires
-reach-requires c κs =
-    let e = c.before.before.before in
-    reachable (entry e.before).requires (entry e.before).args.role e.before.start.ensures e.if1.false
+reach-requires c κs = reachable (entry c.before.before.before.before).requires (entry c.before.before.before.before).args.role c.start-tile.ensures c.if-tile-triangles.false
 
-select-requires : tie.Need-select-requires
-select-requires c κs = search rules
+select-count-requires : tie.Need-select-count-requires
+select-count-requires c κs = search rules
 
-mul-if2 : tie.Need-overflow-mul-if2
-mul-if2 c =
-    let s = c.before.before in
-    omega (arith, four-fits (entry (started (marked_by s)).before).requires.small s.select.ensures)
+overflow_mul-count : tie.Need-overflow_mul-count
+overflow_mul-count c = omega (arith, four-fits (entry (started (marked_by c.before.before)).before).requires.small c.select-count.ensures)
 
-same_length : tie.Need-same-length
-same_length c = search rules
+shape_of-marks-then-count-triangles : tie.Need-shape_of-marks-then-count-triangles
+shape_of-marks-then-count-triangles c = search rules
 
-same-length-2 : tie.Need-same-length-2
-same-length-2 c = search rules
+shape_of-kept-then-count-triangles : tie.Need-shape_of-kept-then-count-triangles
+shape_of-kept-then-count-triangles c = search rules
 
-same-length-3 : tie.Need-same-length-3
-same-length-3 c = search rules
+shape_of-queue-then-count-triangles : tie.Need-shape_of-queue-then-count-triangles
+shape_of-queue-then-count-triangles c = search rules
 
-same-length-4 : tie.Need-same-length-4
-same-length-4 c = search rules
+shape_of-opened-then-count-triangles : tie.Need-shape_of-opened-then-count-triangles
+shape_of-opened-then-count-triangles c = search rules
 
-returns-2 : tie.Need-returns-2
-returns-2 c =
-    let s = c.before.before.before in
-    let r = marked_by s in
-    let e = started r in
+returns-then-count-triangles : tie.Need-returns-then-count-triangles
+returns-then-count-triangles c = let e = started (marked_by c.before.before.before) in
     uneven (gathered (entry e.before).requires (entry e.before).args.role e.before.start.ensures e.if1.left
-    r.reach.ensures s.select.ensures) c.if2.true
+    c.reach.ensures c.select-count.ensures) c.if-count-triangles.true
 
-same-length-5 : tie.Need-same-length-5
-same-length-5 c = search rules
+shape_of-marks : tie.Need-shape_of-marks
+shape_of-marks c = search rules
 
-same-length-6 : tie.Need-same-length-6
-same-length-6 c = search rules
+shape_of-kept : tie.Need-shape_of-kept
+shape_of-kept c = search rules
 
-same-length-7 : tie.Need-same-length-7
-same-length-7 c = search rules
+shape_of-queue : tie.Need-shape_of-queue
+shape_of-queue c = search rules
 
-same-length-8 : tie.Need-same-length-8
-same-length-8 c = search rules
+shape_of-opened : tie.Need-shape_of-opened
+shape_of-opened c = search rules
 
-returns-3 : tie.Need-returns-3
-returns-3 c =
-    let s = c.before.before.before in
-    let r = marked_by s in
-    let e = started r in
+returns : tie.Need-returns
+returns c = let e = started (marked_by c.before.before.before) in
     let a = entry e.before in
     quarter
-    (gathered a.pre a.args.role e.before.start.ensures e.if1.left r.reach.ensures
-    s.select.ensures)
-    c.if2.false
-    (omega (arith, a.pre.inside, c.if2.false))
+    (gathered a.requires a.args.role e.before.start.ensures e.if1.left c.reach.ensures
+    c.select-count.ensures)
+    c.if-count-triangles.false
+    (omega (arith, a.requires.inside, c.if-count-triangles.false))
 
-pub find-tiles-spec : {M : Type 1} → statement M
-find-tiles-spec =
+pub find_tiles_spec : {M : Type 1} → statement M
+find_tiles_spec =
     tie.close
     (tie.spec
-    start-requires
-    returns
+    start-tile-requires
+    returns-then-tile-triangles
     reach-requires
-    select-requires
-    mul-if2
-    same_length
-    same-length-2
-    same-length-3
-    same-length-4
-    returns-2
-    same-length-5
-    same-length-6
-    same-length-7
-    same-length-8
-    returns-3)
+    select-count-requires
+    overflow_mul-count
+    shape_of-marks-then-count-triangles
+    shape_of-kept-then-count-triangles
+    shape_of-queue-then-count-triangles
+    shape_of-opened-then-count-triangles
+    returns-then-count-triangles
+    shape_of-marks
+    shape_of-kept
+    shape_of-queue
+    shape_of-opened
+    returns)

@@ -14,27 +14,28 @@ claims-requires : tie.Need-claims-requires
 claims-requires c κs = search rules
 
 invert-requires : tie.Need-invert-requires
-invert-requires c κs =
-    let call = c.before.before.before.before in
-    claimed-lent (start call).requires call.claims.ensures call.claims.auto.1.1.1.0 refl
+invert-requires c κs = claimed-lent (start c.before.before.before).requires c.claims.ensures c.claims.auto.out refl
 
 inverts-requires : tie.Need-inverts-requires
-inverts-requires c κs =
-    let inverted = c.before.before.before.before in
-    let call = inverted.before.before.before.before.before in
-    claimed-lent (start call).requires call.claims.ensures call.claims.auto.1.1.1.0
-    inverted.invert.auto.1.1.0
+inverts-requires c κs = claimed-lent (start c.before.before.before.before.before.before).requires c.claims.ensures c.claims.auto.out
+    c.invert.auto.table
 
-same_length : tie.Need-same-length
-same_length c = search rules
+shape_of-map : tie.Need-shape_of-map
+shape_of-map c = search rules
 
-same-length-2 : tie.Need-same-length-2
-same-length-2 c = search rules
+shape_of-claimed : tie.Need-shape_of-claimed
+shape_of-claimed c = search rules
 
 returns : tie.Need-returns
 returns c = search rules
 
-pub map-triangles-spec : {M : Type 1} → statement M
-map-triangles-spec =
+pub map_triangles_spec : {M : Type 1} → statement M
+map_triangles_spec =
     tie.close
-    (tie.spec claims-requires invert-requires inverts-requires same_length same-length-2 returns)
+    (tie.spec
+    claims-requires
+    invert-requires
+    inverts-requires
+    shape_of-map
+    shape_of-claimed
+    returns)

@@ -16,11 +16,11 @@ abbrev selecting : tie.After-scatter → tie.After-select
 selecting c = c.before.before.before.before
 
 -- the call before the second
-abbrev scattering : tie.After-scatter2 → tie.After-scatter
-scattering c = c.before.before.before.before.before
+abbrev scattering : tie.After-scatter-2 → tie.After-scatter
+scattering c = c.before.before.before.before
 
-mul-halves : tie.Need-overflow-mul-halves
-mul-halves c = search rules
+overflow_mul-halves : tie.Need-overflow_mul-halves
+overflow_mul-halves c = search rules
 
 select-requires : tie.Need-select-requires
 select-requires c κs = search rules
@@ -29,68 +29,52 @@ scatter-requires : tie.Need-scatter-requires
 scatter-requires c κs = search rules
 
 scatter-requires-2 : tie.Need-scatter-requires-2
-scatter-requires-2 c κs =
-    let first = c.before.before.before.before in
-    let call = selecting first in
-    corners-lent (start call).pre call.select.ensures first.scatter.auto.1.1.1.0
-    call.select.kept.1.1.1.0
+scatter-requires-2 c κs = corners-lent (start (selecting c.before.before.before)).requires c.select.ensures c.scatter.auto.table
+    c.select.auto.out
 
 holds-requires : tie.Need-holds-requires
-holds-requires c κs =
-    let second = c.before.before.before in
-    let first = scattering second in
-    kept-lent (start (selecting first)).requires (second.scatter2.auto.1.1.1.0 ∙ first.scatter.kept.1.1.1.0)
+holds-requires c κs = kept-lent (start (selecting (scattering c.before.before))).requires (c.scatter-2.auto.table ∙ c.scatter.auto.table)
 
-same_length : tie.Need-same-length
-same_length c = search rules
+shape_of-map-then-not-holds : tie.Need-shape_of-map-then-not-holds
+shape_of-map-then-not-holds c = search rules
 
-same-length-2 : tie.Need-same-length-2
-same-length-2 c = search rules
+shape_of-corners-then-not-holds : tie.Need-shape_of-corners-then-not-holds
+shape_of-corners-then-not-holds c = search rules
 
-returns : tie.Need-returns
-returns c =
-    let second = c.before.before.before.before.before in
-    let first = scattering second in
-    let call = selecting first in
-    vertices-refused (start call).pre call.select.ensures first.scatter.ensures second.scatter2.ensures
-    c.before.holds.ensures (not-true _ c.if1.true)
+returns-then-not-holds : tie.Need-returns-then-not-holds
+returns-then-not-holds c = let call = selecting (scattering c.before.before.before.before) in
+    vertices-refused (start call).requires call.select.ensures c.scatter.ensures c.scatter-2.ensures
+    c.holds.ensures c.if-not-holds.true
 
 holds-requires-2 : tie.Need-holds-requires-2
-holds-requires-2 c κs =
-    let second = c.before.before.before.before.before.before.before in
-    let first = scattering second in
-    let call = selecting first in
-    corners-lent (start call).pre call.select.ensures
-    (second.scatter2.auto.1.1.1.0 ∙ first.scatter.kept.1.1.1.0) call.select.kept.1.1.1.0
+holds-requires-2 c κs = let call = selecting (scattering c.before.before.before.before) in
+    corners-lent (start call).requires call.select.ensures
+    (c.scatter-2.auto.table ∙ c.scatter.auto.table) call.select.auto.1.1.1.0
 
-same-length-3 : tie.Need-same-length-3
-same-length-3 c = search rules
+shape_of-map : tie.Need-shape_of-map
+shape_of-map c = search rules
 
-same-length-4 : tie.Need-same-length-4
-same-length-4 c = search rules
+shape_of-corners : tie.Need-shape_of-corners
+shape_of-corners c = search rules
 
-returns-2 : tie.Need-returns-2
-returns-2 c =
-    let tested = c.before.before.before in
-    let second = tested.before.before.before.before.before in
-    let first = scattering second in
-    let call = selecting first in
-    vertices-held (start call).pre call.select.ensures first.scatter.ensures second.scatter2.ensures
-    tested.before.holds.ensures (not-false _ tested.if1.false) c.holds2.ensures
+returns : tie.Need-returns
+returns c = let call = selecting (scattering c.before.before.before.before.before) in
+    vertices-held (start call).requires call.select.ensures c.scatter.ensures c.scatter-2.ensures
+    c.holds.ensures c.if-not-holds.false c.holds-2.ensures
 
-pub map-vertices-spec : {M : Type 1} → statement M
-map-vertices-spec =
+pub map_vertices_spec : {M : Type 1} → statement M
+map_vertices_spec =
     tie.close
     (tie.spec
-    mul-halves
+    overflow_mul-halves
     select-requires
     scatter-requires
     scatter-requires-2
     holds-requires
-    same_length
-    same-length-2
-    returns
+    shape_of-map-then-not-holds
+    shape_of-corners-then-not-holds
+    returns-then-not-holds
     holds-requires-2
-    same-length-3
-    same-length-4
-    returns-2)
+    shape_of-map
+    shape_of-corners
+    returns)

@@ -11,168 +11,151 @@ use Rattle.undo_stages.proofs.number_tiles.Statement.{statement}
 use Rattle.undo_stages.proofs.number_tiles.Tie as tie
 
 -- ---- from each call to the one before
-
 abbrev entry : tie.After-fill → tie.Start
 entry c = c.before.before.before.before.before.before.before.before.before
 
-abbrev clearing : tie.After-mark-used → tie.After-fill
-clearing c = c.before.before.before.before.before
+abbrev clearing : tie.After-mark_used → tie.After-fill
+clearing c = c.before.before.before.before
 
-abbrev marking : tie.After-ranks → tie.After-mark-used
-marking c = c.before.before.before.before.before
+abbrev marking : tie.After-ranks-kept_count → tie.After-mark_used
+marking c = c.before.before.before.before
 
-abbrev ranking : tie.After-gather → tie.After-ranks
-ranking c = c.before.before.before.before.before
+abbrev ranking : tie.After-gather → tie.After-ranks-kept_count
+ranking c = c.before.before.before.before
 
-abbrev gathering : tie.After-ranks2 → tie.After-gather
+abbrev gathering : tie.After-ranks → tie.After-gather
 gathering c = c.before.before.before.before
 
-abbrev tiling : tie.After-selected-ring → tie.After-ranks2
-tiling c = c.before.before.before.before.before
+abbrev tiling : tie.After-selected_ring → tie.After-ranks
+tiling c = c.before.before.before.before
 
-abbrev origin : tie.After-selected-ring → tie.Start
+abbrev origin : tie.After-selected_ring → tie.Start
 origin c = entry (clearing (marking (ranking (gathering (tiling c)))))
 
-abbrev selecting : tie.After-number-edges → tie.After-selected-ring
-selecting c = c.before.before.before.before.before
+abbrev selecting : tie.After-number_edges-edges → tie.After-selected_ring
+selecting c = c.before.before.before.before
 
 -- ---- what the calls have made
 
 -- the tables of the coarse mesh
-made : (c : tie.After-selected-ring)
+made : (c : tie.After-selected_ring)
     → CoarseTables (origin c).args.vertices (origin c).args.triangles (origin c).args.count
-    (origin c).args.ring.now (origin c).args.marks.now (origin c).args.kept.now
-    (ranking (gathering (tiling c))).ranks.result (gathering (tiling c)).gather.new.1.1.1.0
-    c.selected-ring.new.1.1.1.1.0
+    (origin c).args.ring.now (origin c).args.marks.now (origin c).args.auto.now
+    (ranking (gathering (tiling c))).ranks-kept_count.result (gathering (tiling c)).gather.new.out
+    c.selected_ring.new.out
 made c =
-    let t = tiling c in
-    let g = gathering t in
+    let g = gathering (tiling c) in
     let r = ranking g in
     let m = marking r in
-    tables (entry (clearing m)).requires m.mark-used.ensures r.ranks.ensures g.gather.kept.1.1.1.0
-    g.gather.ensures t.ranks2.ensures c.selected-ring.ensures
+    tables (entry (clearing m)).requires m.mark-used.ensures r.ranks.ensures g.gather.auto.1.1.1.0
+    g.gather.ensures c.ranks.ensures c.selected_ring.ensures
 
 -- the table of the rings is as long as at first
-table-length : (c : tie.After-selected-ring)
-    → length c.selected-ring.new.1.1.1.1.0 ≡ length (origin c).args.table.now
+table-length : (c : tie.After-selected_ring)
+    → length c.selected_ring.new.out ≡ length (origin c).args.table.now
 table-length c =
     let m = marking (ranking (gathering (tiling c))) in
-    c.selected-ring.auto.1.1.1.1.0 ∙ m.mark-used.kept.1.1.1.0 ∙ (clearing m).fill.kept.0
+    c.selected_ring.auto.out ∙ m.mark-used.auto.1.1.1.0 ∙ (clearing m).fill.auto.s
 
 -- ---- the answers
-
-mul-halves : tie.Need-overflow-mul-halves
-mul-halves c = search rules
+overflow_mul-halves : tie.Need-overflow_mul-halves
+overflow_mul-halves c = search rules
 
 fill-requires : tie.Need-fill-requires
 fill-requires c κs = search rules
 
-slice-aggregate-mark-used : tie.Need-slice-aggregate-mark-used
-slice-aggregate-mark-used c = sym (length-take-le _ _ (entry c.before.before.before).requires.kept_room)
+slice_bounds-mark_used-end : tie.Need-slice_bounds-mark_used-end
+slice_bounds-mark_used-end c = sym (length-take-le _ _ (entry c.before.before).requires.kept_room)
 
-mark-used-requires : tie.Need-mark-used-requires
-mark-used-requires c κs =
-    let f = c.before.before.before.before in
-    markable (entry f).requires f.fill.ensures
+mark_used-requires : tie.Need-mark_used-requires
+mark_used-requires c κs = markable (entry c.before.before.before).requires c.fill.ensures
+
+ranks-kept_count-requires : tie.Need-ranks-kept_count-requires
+ranks-kept_count-requires c κs = search rules
+
+gather-requires : tie.Need-gather-requires
+gather-requires c κs = gatherable (entry (clearing (marking c.before.before.before))).requires c.ranks-kept_count.auto.rank
 
 ranks-requires : tie.Need-ranks-requires
 ranks-requires c κs = search rules
 
-gather-requires : tie.Need-gather-requires
-gather-requires c κs =
-    let r = c.before.before.before.before in
-    gatherable (entry (clearing (marking r))).requires r.ranks.auto.1.1.0
-
-ranks-requires-2 : tie.Need-ranks-requires-2
-ranks-requires-2 c κs = search rules
-
-selected-ring-requires : tie.Need-selected-ring-requires
-selected-ring-requires c κs =
-    let t = c.before.before.before.before in
-    let r = ranking (gathering t) in
+selected_ring-requires : tie.Need-selected_ring-requires
+selected_ring-requires c κs = let r = ranking (gathering c.before.before.before) in
     let m = marking r in
-    selectable (entry (clearing m)).requires (t.ranks2.auto.1.1.0 ∙ r.ranks.kept.1.1.0)
-    (m.mark-used.kept.1.1.1.0 ∙ (clearing m).fill.kept.0) t.ranks2.ensures
+    selectable (entry (clearing m)).requires (c.ranks.auto.rank ∙ r.ranks.auto.1.1.0)
+    (m.mark-used.auto.1.1.1.0 ∙ (clearing m).fill.auto.s) c.ranks.ensures
 
-number-edges-requires : tie.Need-number-edges-requires
-number-edges-requires c κs =
-    let o = c.before.before.before.before in
-    numberable (origin o).requires (made o) (table-length o)
+number_edges-edges-requires : tie.Need-number_edges-edges-requires
+number_edges-edges-requires c κs = numberable (origin c.before.before.before).requires (made c.before.before.before) (table-length c.before.before.before)
 
-add-if1 : tie.Need-overflow-add-if1
-add-if1 c =
-    let o = selecting c.before.before in
-    omega (arith, sum_fits (origin o).pre (made o) c.before.before.number-edges.ensures)
+overflow_add-kept_count : tie.Need-overflow_add-kept_count
+overflow_add-kept_count c = omega (arith, sum_fits (origin (selecting c.before.before)).requires (made (selecting c.before.before)) c.number_edges-edges.ensures)
 
-same_length : tie.Need-same-length
-same_length c = search rules
+shape_of-coarse-then-kept_count-edges : tie.Need-shape_of-coarse-then-kept_count-edges
+shape_of-coarse-then-kept_count-edges c = search rules
 
-same-length-2 : tie.Need-same-length-2
-same-length-2 c = search rules
+shape_of-numbers-then-kept_count-edges : tie.Need-shape_of-numbers-then-kept_count-edges
+shape_of-numbers-then-kept_count-edges c = search rules
 
-same-length-3 : tie.Need-same-length-3
-same-length-3 c = search rules
+shape_of-rank-then-kept_count-edges : tie.Need-shape_of-rank-then-kept_count-edges
+shape_of-rank-then-kept_count-edges c = search rules
 
-same-length-4 : tie.Need-same-length-4
-same-length-4 c = table-length (selecting c.before.before.before)
+shape_of-table-then-kept_count-edges : tie.Need-shape_of-table-then-kept_count-edges
+shape_of-table-then-kept_count-edges c = table-length (selecting c.before.before.before)
+
+returns-then-kept_count-edges : tie.Need-returns-then-kept_count-edges
+returns-then-kept_count-edges c = record {
+      vertices = _;
+      edges = _;
+      ring_c = _;
+      tables = made (selecting c.before.before.before);
+      numbered = c.number_edges-edges.ensures;
+      answers = odd c.if-kept_count-edges.true;
+    }
+
+shape_of-coarse : tie.Need-shape_of-coarse
+shape_of-coarse c = search rules
+
+shape_of-numbers : tie.Need-shape_of-numbers
+shape_of-numbers c = search rules
+
+shape_of-rank : tie.Need-shape_of-rank
+shape_of-rank c = search rules
+
+shape_of-table : tie.Need-shape_of-table
+shape_of-table c = table-length (selecting c.before.before.before)
 
 returns : tie.Need-returns
-returns c =
-    let d = c.before.before.before in
-    record {
+returns c = record {
       vertices = _;
       edges = _;
       ring_c = _;
-      tables = made (selecting d);
-      numbered = d.number-edges.ensures;
-      answers = odd c.if1.true;
+      tables = made (selecting c.before.before.before);
+      numbered = c.number_edges-edges.ensures;
+      answers = even c.if-kept_count-edges.false;
     }
 
-same-length-5 : tie.Need-same-length-5
-same-length-5 c = search rules
-
-same-length-6 : tie.Need-same-length-6
-same-length-6 c = search rules
-
-same-length-7 : tie.Need-same-length-7
-same-length-7 c = search rules
-
-same-length-8 : tie.Need-same-length-8
-same-length-8 c = table-length (selecting c.before.before.before)
-
-returns-2 : tie.Need-returns-2
-returns-2 c =
-    let d = c.before.before.before in
-    record {
-      vertices = _;
-      edges = _;
-      ring_c = _;
-      tables = made (selecting d);
-      numbered = d.number-edges.ensures;
-      answers = even c.if1.false;
-    }
-
-pub number-tiles-spec : {M : Type 1} → statement M
-number-tiles-spec =
+pub number_tiles_spec : {M : Type 1} → statement M
+number_tiles_spec =
     tie.close
     (tie.spec
-    mul-halves
+    overflow_mul-halves
     fill-requires
-    slice-aggregate-mark-used
-    mark-used-requires
-    ranks-requires
+    slice_bounds-mark_used-end
+    mark_used-requires
+    ranks-kept_count-requires
     gather-requires
-    ranks-requires-2
-    selected-ring-requires
-    number-edges-requires
-    add-if1
-    same_length
-    same-length-2
-    same-length-3
-    same-length-4
-    returns
-    same-length-5
-    same-length-6
-    same-length-7
-    same-length-8
-    returns-2)
+    ranks-requires
+    selected_ring-requires
+    number_edges-edges-requires
+    overflow_add-kept_count
+    shape_of-coarse-then-kept_count-edges
+    shape_of-numbers-then-kept_count-edges
+    shape_of-rank-then-kept_count-edges
+    shape_of-table-then-kept_count-edges
+    returns-then-kept_count-edges
+    shape_of-coarse
+    shape_of-numbers
+    shape_of-rank
+    shape_of-table
+    returns)

@@ -26,14 +26,19 @@ entry-given byte entry e = go (digit_value byte) refl
 looked-up : (s : tie.Start) → DigitGiven s.args.byte (at s.args.table.now s.args.byte)
 looked-up s = entry-given _ _ (s.requires.entries s.args.byte (search rules))
 
-shared-slice-read-result : tie.Need-shared-slice-read-result
-shared-slice-read-result c = search rules
+bounds-table-byte : tie.Need-bounds-table-byte
+bounds-table-byte c = search rules
 
-cast-result : tie.Need-overflow-cast-result
-cast-result c = omega (arith, given-most (looked-up c.before))
+overflow_cast-result-2 : tie.Need-overflow_cast-result-2
+overflow_cast-result-2 c = omega (arith, given-most (looked-up c.before))
 
 returns : tie.Need-returns
 returns c = looked-up c.before
 
-pub digit-value-spec : {M : Type 1} → statement M
-digit-value-spec = tie.close (tie.spec shared-slice-read-result cast-result returns)
+pub digit_value_spec : {M : Type 1} → statement M
+digit_value_spec =
+    tie.close
+    (tie.spec
+    bounds-table-byte
+    overflow_cast-result-2
+    returns)

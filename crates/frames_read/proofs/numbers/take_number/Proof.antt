@@ -9,145 +9,132 @@ use Rattle.frames_read.proofs.numbers.take_number.Statement.{statement}
 use Rattle.frames_read.proofs.numbers.take_number.Tie as tie
 
 -- the start, seen from after the four digits
-abbrev start : tie.After-digit-value4 → tie.Start
+abbrev start : tie.After-digit_value-fourth → tie.Start
 start c = c.before.before.before.before.before.before.before.before.before.before
 
 -- what the four bytes are given as is small
-small : (c : tie.After-digit-value4)
-    → let second = c.before.before.before.before in
-    (second.before.before.digit_value.result ≤ 78) × (second.digit-value2.result ≤ 78)
-    × (c.before.before.digit-value3.result ≤ 78) × (c.digit-value4.result ≤ 78)
-small c =
-    let second = c.before.before.before.before in (
-      given-most second.before.before.digit_value.ensures,
-      given-most second.digit-value2.ensures,
-      given-most c.before.before.digit-value3.ensures,
-      given-most c.digit-value4.ensures,
-    )
+small : (c : tie.After-digit_value-fourth)
+    → (c.digit_value-first.result ≤ 78) × (c.digit_value-second.result ≤ 78)
+    × (c.digit_value-third.result ≤ 78) × (c.digit_value-fourth.result ≤ 78)
+small c = (
+  given-most c.digit_value-first.ensures,
+  given-most c.digit_value-second.ensures,
+  given-most c.digit_value-third.ensures,
+  given-most c.digit_value-fourth.ensures,
+)
 
 -- and smaller where all are digits
-digits : (c : tie.Else1)
-    → let d = c.before in
-    let second = d.before.before.before.before in
-    (second.before.before.digit_value.result < 16) × (second.digit-value2.result < 16)
-    × (d.before.before.digit-value3.result < 16)
-digits c =
-    let d = c.before in
-    let second = d.before.before.before.before in (
-      given-digit second.before.before.digit_value.ensures (omega (arith, c.if1.false)),
-      given-digit second.digit-value2.ensures (omega (arith, c.if1.false)),
-      given-digit d.before.before.digit-value3.ensures (omega (arith, c.if1.false)),
-    )
+digits : (c : tie.Else-first-second)
+    → (c.digit_value-first.result < 16) × (c.digit_value-second.result < 16)
+    × (c.digit_value-third.result < 16)
+digits c = (
+  given-digit c.digit_value-first.ensures (omega (arith, c.if-first-second.false)),
+  given-digit c.digit_value-second.ensures (omega (arith, c.if-first-second.false)),
+  given-digit c.digit_value-third.ensures (omega (arith, c.if-first-second.false)),
+)
 
 -- ---- the answers
+bounds-bytes-at : tie.Need-bounds-bytes-at
+bounds-bytes-at c = search rules
 
-shared-slice-read-digit-value : tie.Need-shared-slice-read-digit-value
-shared-slice-read-digit-value c = search rules
+digit_value-first-requires : tie.Need-digit_value-first-requires
+digit_value-first-requires c κs = c.requires.looked
 
-digit-value-requires : tie.Need-digit-value-requires
-digit-value-requires c κs = c.before.before.before.requires.looked
+overflow_add-at : tie.Need-overflow_add-at
+overflow_add-at c = search rules
 
-add-digit-value : tie.Need-overflow-add-digit-value
-add-digit-value c = search rules
+bounds-bytes-at-2 : tie.Need-bounds-bytes-at-2
+bounds-bytes-at-2 c = search rules
 
-shared-slice-read-digit-value-2 : tie.Need-shared-slice-read-digit-value-2
-shared-slice-read-digit-value-2 c = search rules
+digit_value-second-requires : tie.Need-digit_value-second-requires
+digit_value-second-requires c κs = c.requires.looked
 
-digit-value-requires-2 : tie.Need-digit-value-requires-2
-digit-value-requires-2 c κs = c.before.before.before.before.before.requires.looked
+overflow_add-at-2 : tie.Need-overflow_add-at-2
+overflow_add-at-2 c = search rules
 
-add-digit-value-2 : tie.Need-overflow-add-digit-value-2
-add-digit-value-2 c = search rules
+bounds-bytes-at-3 : tie.Need-bounds-bytes-at-3
+bounds-bytes-at-3 c = search rules
 
-shared-slice-read-digit-value-3 : tie.Need-shared-slice-read-digit-value-3
-shared-slice-read-digit-value-3 c = search rules
+digit_value-third-requires : tie.Need-digit_value-third-requires
+digit_value-third-requires c κs = c.requires.looked
 
-digit-value-requires-3 : tie.Need-digit-value-requires-3
-digit-value-requires-3 c κs = c.before.before.before.before.before.before.before.requires.looked
+overflow_add-at-3 : tie.Need-overflow_add-at-3
+overflow_add-at-3 c = search rules
 
-add-digit-value-3 : tie.Need-overflow-add-digit-value-3
-add-digit-value-3 c = search rules
+bounds-bytes-at-4 : tie.Need-bounds-bytes-at-4
+bounds-bytes-at-4 c = search rules
 
-shared-slice-read-digit-value-4 : tie.Need-shared-slice-read-digit-value-4
-shared-slice-read-digit-value-4 c = search rules
+digit_value-fourth-requires : tie.Need-digit_value-fourth-requires
+digit_value-fourth-requires c κs = c.requires.looked
 
-digit-value-requires-4 : tie.Need-digit-value-requires-4
-digit-value-requires-4 c κs = c.before.before.before.before.before.before.before.before.before.requires.looked
+overflow_mul-t-15 : tie.Need-overflow_mul-t-15
+overflow_mul-t-15 c = search rules
 
-mul-if1 : tie.Need-overflow-mul-if1
-mul-if1 c = search rules
+overflow_add-first : tie.Need-overflow_add-first
+overflow_add-first c = omega (arith, small c)
 
-add-if1 : tie.Need-overflow-add-if1
-add-if1 c = omega (arith, small c)
+overflow_add-first-2 : tie.Need-overflow_add-first-2
+overflow_add-first-2 c = omega (arith, small c)
 
-add-if1-2 : tie.Need-overflow-add-if1-2
-add-if1-2 c = omega (arith, small c)
+overflow_add-first-3 : tie.Need-overflow_add-first-3
+overflow_add-first-3 c = omega (arith, small c)
 
-add-if1-3 : tie.Need-overflow-add-if1-3
-add-if1-3 c = omega (arith, small c)
+returns-then-first-second : tie.Need-returns-then-first-second
+returns-then-first-second c = sym (number-wrong _ _ (start c.before).requires.there c.digit_value-first.ensures
+    c.digit_value-second.ensures c.digit_value-third.ensures c.digit_value-fourth.ensures
+    (omega (arith, c.if-first-second.true)))
+
+overflow_mul-result : tie.Need-overflow_mul-result
+overflow_mul-result c = search rules
+
+overflow_add-result : tie.Need-overflow_add-result
+overflow_add-result c = search rules
+
+overflow_mul-result-2 : tie.Need-overflow_mul-result-2
+overflow_mul-result-2 c = search rules
+
+overflow_add-result-2 : tie.Need-overflow_add-result-2
+overflow_add-result-2 c = search rules
+
+overflow_mul-result-3 : tie.Need-overflow_mul-result-3
+overflow_mul-result-3 c = omega (arith, digits c)
+
+overflow_add-result-3 : tie.Need-overflow_add-result-3
+overflow_add-result-3 c = omega (arith, digits c, small c.before)
+
+overflow_add-result-4 : tie.Need-overflow_add-result-4
+overflow_add-result-4 c = search rules
 
 returns : tie.Need-returns
-returns c =
-    let d = c.before in
-    let second = d.before.before.before.before in
-    sym (number-wrong _ _ (start d).requires.there second.before.before.digit_value.ensures
-    second.digit-value2.ensures d.before.before.digit-value3.ensures d.digit-value4.ensures
-    (omega (arith, c.if1.true)))
+returns c = sym (number-here _ _ (start c.before).requires.there c.digit_value-first.ensures
+    c.digit_value-second.ensures c.digit_value-third.ensures c.digit_value-fourth.ensures
+    (omega (arith, c.if-first-second.false)) (omega arith))
 
-mul-t15 : tie.Need-overflow-mul-t15
-mul-t15 c = search rules
-
-add-t16 : tie.Need-overflow-add-t16
-add-t16 c = search rules
-
-mul-t18 : tie.Need-overflow-mul-t18
-mul-t18 c = search rules
-
-add-t17 : tie.Need-overflow-add-t17
-add-t17 c = search rules
-
-mul-t20 : tie.Need-overflow-mul-t20
-mul-t20 c = omega (arith, digits c)
-
-add-t21 : tie.Need-overflow-add-t21
-add-t21 c = omega (arith, digits c, small c.before)
-
-add-t11 : tie.Need-overflow-add-t11
-add-t11 c = search rules
-
-returns-2 : tie.Need-returns-2
-returns-2 c =
-    let d = c.before in
-    let second = d.before.before.before.before in
-    sym (number-here _ _ (start d).requires.there second.before.before.digit_value.ensures
-    second.digit-value2.ensures d.before.before.digit-value3.ensures d.digit-value4.ensures
-    (omega (arith, c.if1.false)) (omega arith))
-
-pub take-number-spec : {M : Type 1} → statement M
-take-number-spec =
+pub take_number_spec : {M : Type 1} → statement M
+take_number_spec =
     tie.close
     (tie.spec
-    shared-slice-read-digit-value
-    digit-value-requires
-    add-digit-value
-    shared-slice-read-digit-value-2
-    digit-value-requires-2
-    add-digit-value-2
-    shared-slice-read-digit-value-3
-    digit-value-requires-3
-    add-digit-value-3
-    shared-slice-read-digit-value-4
-    digit-value-requires-4
-    mul-if1
-    add-if1
-    add-if1-2
-    add-if1-3
-    returns
-    mul-t15
-    add-t16
-    mul-t18
-    add-t17
-    mul-t20
-    add-t21
-    add-t11
-    returns-2)
+    bounds-bytes-at
+    digit_value-first-requires
+    overflow_add-at
+    bounds-bytes-at-2
+    digit_value-second-requires
+    overflow_add-at-2
+    bounds-bytes-at-3
+    digit_value-third-requires
+    overflow_add-at-3
+    bounds-bytes-at-4
+    digit_value-fourth-requires
+    overflow_mul-t-15
+    overflow_add-first
+    overflow_add-first-2
+    overflow_add-first-3
+    returns-then-first-second
+    overflow_mul-result
+    overflow_add-result
+    overflow_mul-result-2
+    overflow_add-result-2
+    overflow_mul-result-3
+    overflow_add-result-3
+    overflow_add-result-4
+    returns)

@@ -18,180 +18,157 @@ use Rattle.frames_read.proofs.reading.read.Statement.{statement}
 use Rattle.frames_read.proofs.reading.read.Tie as tie
 
 -- ---- what is known on the way
-
-abbrev start : tie.After-known-told → tie.Start
-start c = c.before.before.before.before.before.before.before.before
+abbrev start : tie.In-Holds → tie.Start
+start c = c.before.before.before.before.before.before
 
 -- the table of digits
-looked : (c : tie.After-known-told) → DigitTable c.before.before.before.before.before.digit-table.result
-looked c = c.before.before.before.before.before.digit-table.ensures
+looked : (c : tie.In-Holds) → DigitTable c.digit_table-table.result
+looked c = c.digit_table-table.ensures
 
 -- the counts of the mesh
-abbrev N : tie.After-known-told → ℕ
-N c = c.before.vertices.given.0.0
+abbrev N : tie.In-Holds → ℕ
+N c = c.in-Holds.vertices
 
-abbrev F : tie.After-known-told → ℕ
-F c = c.before.vertices.given.0.1.0
+abbrev F : tie.In-Holds → ℕ
+F c = c.in-Holds.triangles
 
 -- the bytes after the mesh line
-abbrev rest : tie.After-known-told → List ℕ
-rest c = drop c.before.vertices.given.0.1.1.0.at (start c).args.bytes.now
+abbrev rest : tie.In-Holds → List ℕ
+rest c = drop c.in-Holds.cursor.at (start c).args.bytes.now
 
 -- the mesh line is read
-mesh-line : (c : tie.After-known-told)
+mesh-line : (c : tie.In-Holds)
     → take_line 0x4D 2 (start c).args.bytes.now ≡ some (record { value = N c ∷ F c ∷ []; rest = rest c })
 mesh-line c =
     whole-taken _ _
-    (sym (ap (mesh_given _) c.before.vertices.given.1) ∙ c.before.before.before.take-mesh.ensures)
+    (sym (ap (mesh_given _) c.in-Holds.is) ∙ c.take_mesh.ensures)
 
 -- past the tests of the limits the counts are within them
-within : (c : tie.Else2)
-    → let m = c.before.before in
-    (F m ≤ most_triangles) × (N m ≤ most_vertices)
+within : (c : tie.Else-most_vertices-vertices)
+    → (F c.before.before ≤ most_triangles) × (N c.before.before ≤ most_vertices)
 within c =
     let lent = (start c.before.before).requires in
-    (omega (arith, lent.triangles, c.before.if1.false), omega (arith, lent.vertices, c.if2.false))
+    (omega (arith, lent.triangles, c.if-most_triangles-triangles.false), omega (arith, lent.vertices, c.if-most_vertices-vertices.false))
 
 -- the mesh line, seen from past the test of the room
-abbrev mesh-told : tie.Else3 → tie.After-known-told
+abbrev mesh-told : tie.Else-out-triangles → tie.In-Holds
 mesh-told c = c.before.before.before
 
 -- ---- the answers
+digit_table-table-requires : tie.Need-digit_table-table-requires
+digit_table-table-requires c κs = search rules
 
-digit-table-requires : tie.Need-digit-table-requires
-digit-table-requires c κs = search rules
+slice_bounds-take_mesh-end : tie.Need-slice_bounds-take_mesh-end
+slice_bounds-take_mesh-end c = search rules
 
-slice-aggregate-take-mesh : tie.Need-slice-aggregate-take-mesh
-slice-aggregate-take-mesh c = search rules
+take_mesh-requires : tie.Need-take_mesh-requires
+take_mesh-requires c κs = c.digit_table-table.ensures
 
-take-mesh-requires : tie.Need-take-mesh-requires
-take-mesh-requires c κs = c.before.digit-table.ensures
+enum_known-vertices : tie.Need-enum_known-vertices
+enum_known-vertices c = search rules
 
-enum-known-vertices : tie.Need-enum-known-vertices
-enum-known-vertices c = search rules
+enum_told-1 : tie.Need-enum_told-1
+enum_told-1 c = search rules
 
-enum_told : tie.Need-enum-told
-enum_told c = search rules
+returns-in_default : tie.Need-returns-in_default
+returns-in_default c = refused-read _ _ _ _ (first-line-refused _ _
+    (refused-not-taken _ _ (sym (ap (mesh_given _) c.in_default.is) ∙ c.take_mesh.ensures)))
+
+overflow_cast-triangles : tie.Need-overflow_cast-triangles
+overflow_cast-triangles c = search rules
+
+returns-then-most_triangles-triangles : tie.Need-returns-then-most_triangles-triangles
+returns-then-most_triangles-triangles c = let many : most_triangles < F c.before = omega (arith, (start c.before).requires.triangles, c.if-most_triangles-triangles.true) in
+    refused-read _ _ _ _ (large-refused _ _ _ (mesh-line c.before) (inl many))
+
+overflow_cast-vertices : tie.Need-overflow_cast-vertices
+overflow_cast-vertices c = search rules
+
+returns-then-most_vertices-vertices : tie.Need-returns-then-most_vertices-vertices
+returns-then-most_vertices-vertices c = let high : most_vertices < N c.before.before = omega (arith, (start c.before.before).requires.vertices, c.if-most_vertices-vertices.true) in
+    refused-read _ _ _ _ (large-refused _ _ _ (mesh-line c.before.before) (inr high))
+
+overflow_cast-triangles-2 : tie.Need-overflow_cast-triangles-2
+overflow_cast-triangles-2 c = search rules
+
+overflow_mul-triangles : tie.Need-overflow_mul-triangles
+overflow_mul-triangles c = search rules
+
+returns-then-out-triangles : tie.Need-returns-then-out-triangles
+returns-then-out-triangles c = let w = within c.before in
+    refused-read _ _ _ _
+    (short-refused _ _ _ (mesh-line c.before.before.before) w.0 w.1 c.if-out-triangles.true)
+
+overflow_cast-vertices-2 : tie.Need-overflow_cast-vertices-2
+overflow_cast-vertices-2 c = search rules
+
+slice_bounds-take_triangles-end : tie.Need-slice_bounds-take_triangles-end
+slice_bounds-take_triangles-end c = search rules
+
+take_triangles-judged-requires : tie.Need-take_triangles-judged-requires
+take_triangles-judged-requires c κs = record {
+  few = omega (arith, (within c.before.before.before).0);
+  looked = looked (mesh-told c.before.before);
+  room = c.if-out-triangles.false;
+}
+
+enum_told-in-Mesh : tie.Need-enum_told-in-Mesh
+enum_told-in-Mesh c = search rules
+
+enum_told-in_default-judged : tie.Need-enum_told-in_default-judged
+enum_told-in_default-judged c = search rules
+
+shape_of-out-in_default-judged : tie.Need-shape_of-out-in_default-judged
+shape_of-out-in_default-judged c = search rules
+
+returns-in_default-judged : tie.Need-returns-in_default-judged
+returns-in_default-judged c = let limits = within c.before.before.before.before.before.before.before in
+    lines-refused _ _ (mesh-line (mesh-told c.before.before.before.before.before.before)) limits.0 limits.1 c.if-out-triangles.false refl
+    c.take_triangles-judged.ensures c.in_default-judged.is
+
+slice_bounds-take_triangles-end-2 : tie.Need-slice_bounds-take_triangles-end-2
+slice_bounds-take_triangles-end-2 c = search rules
+
+take_triangles-requires : tie.Need-take_triangles-requires
+take_triangles-requires c κs = record {
+  few = omega (arith, (within c.before.before.before.before.before.before.before.before.before).0);
+  looked = looked (mesh-told c.before.before.before.before.before.before.before.before);
+  room = omega (arith, c.if-out-triangles.false, ap length (c.take_triangles-judged.ensures.stays refl));
+}
+
+shape_of-out : tie.Need-shape_of-out
+shape_of-out c = search rules
 
 returns : tie.Need-returns
-returns c =
-    let t = c.before.before in
-    refused-read _ _ _ _ (first-line-refused _ _
-    (refused-not-taken _ _ (sym (ap (mesh_given _) c.enum_told.given.1) ∙ t.take-mesh.ensures)))
-
-cast-if1 : tie.Need-overflow-cast-if1
-cast-if1 c = search rules
-
-returns-2 : tie.Need-returns-2
-returns-2 c =
-    let m = c.before in
-    let many : most_triangles < F m = omega (arith, (start m).requires.triangles, c.if1.true) in
-    refused-read _ _ _ _ (large-refused _ _ _ (mesh-line m) (inl many))
-
-cast-if2 : tie.Need-overflow-cast-if2
-cast-if2 c = search rules
-
-returns-3 : tie.Need-returns-3
-returns-3 c =
-    let m = c.before.before in
-    let high : most_vertices < N m = omega (arith, (start m).requires.vertices, c.if2.true) in
-    refused-read _ _ _ _ (large-refused _ _ _ (mesh-line m) (inr high))
-
-cast-triangles : tie.Need-overflow-cast-triangles
-cast-triangles c = search rules
-
-mul-if3 : tie.Need-overflow-mul-if3
-mul-if3 c = search rules
-
-returns-4 : tie.Need-returns-4
-returns-4 c =
-    let w = within c.before in
-    refused-read _ _ _ _
-    (short-refused _ _ _ (mesh-line c.before.before.before) w.0 w.1 c.if3.true)
-
-cast-vertices : tie.Need-overflow-cast-vertices
-cast-vertices c = search rules
-
-slice-aggregate-take-triangles : tie.Need-slice-aggregate-take-triangles
-slice-aggregate-take-triangles c = search rules
-
-take-triangles-requires : tie.Need-take-triangles-requires
-take-triangles-requires c κs =
-    let room = c.before.before in
-    record {
-      few = omega (arith, (within room.before).0);
-      looked = looked (mesh-told room);
-      room = room.if3.false;
-    }
-
-enum-told-2 : tie.Need-enum-told-2
-enum-told-2 c = search rules
-
-enum-told-3 : tie.Need-enum-told-3
-enum-told-3 c = search rules
-
-same_length : tie.Need-same-length
-same_length c = search rules
-
-returns-5 : tie.Need-returns-5
-returns-5 c =
-    let t = c.before.before.before.before in
-    let room = t.before.before.before in
-    let limits = within room.before in
-    lines-refused _ _ (mesh-line (mesh-told room)) limits.0 limits.1 room.if3.false refl
-    t.take-triangles.ensures c.enum-told3.given.1
-
-slice-aggregate-take-triangles-2 : tie.Need-slice-aggregate-take-triangles-2
-slice-aggregate-take-triangles-2 c = search rules
-
-take-triangles-requires-2 : tie.Need-take-triangles-requires-2
-take-triangles-requires-2 c κs =
-    let t = c.before.before.before.before.before.before in
-    let room = t.before.before.before in
-    record {
-      few = omega (arith, (within room.before).0);
-      looked = looked (mesh-told room);
-      room = omega (arith, room.if3.false, ap length (t.take-triangles.ensures.stays refl));
-    }
-
-same-length-2 : tie.Need-same-length-2
-same-length-2 c = search rules
-
-returns-6 : tie.Need-returns-6
-returns-6 c =
-    let again = c.before.before in
-    let told = again.before.before.before in
-    let t = told.before.before.before.before in
-    let room = t.before.before.before in
-    let limits = within room.before in
-    lines-read _ _ (mesh-line (mesh-told room)) limits.0 limits.1 room.if3.false
-    t.take-triangles.ensures told.enum-told2.given.1 again.take-triangles2.ensures
+returns c = let limits = within c.before.before.before.before.before.before.before.before.before.before.before.before in
+    lines-read _ _ (mesh-line (mesh-told c.before.before.before.before.before.before.before.before.before.before.before)) limits.0 limits.1 c.if-out-triangles.false
+    c.take_triangles-judged.ensures c.in-Mesh.is c.take_triangles.ensures
 
 pub read_spec : {M : Type 1} → statement M
 read_spec =
     tie.close
     (tie.spec
-    digit-table-requires
-    slice-aggregate-take-mesh
-    take-mesh-requires
-    enum-known-vertices
-    enum_told
-    returns
-    cast-if1
-    returns-2
-    cast-if2
-    returns-3
-    cast-triangles
-    mul-if3
-    returns-4
-    cast-vertices
-    slice-aggregate-take-triangles
-    take-triangles-requires
-    enum-told-2
-    enum-told-3
-    same_length
-    returns-5
-    slice-aggregate-take-triangles-2
-    take-triangles-requires-2
-    same-length-2
-    returns-6)
+    digit_table-table-requires
+    slice_bounds-take_mesh-end
+    take_mesh-requires
+    enum_known-vertices
+    enum_told-1
+    returns-in_default
+    overflow_cast-triangles
+    returns-then-most_triangles-triangles
+    overflow_cast-vertices
+    returns-then-most_vertices-vertices
+    overflow_cast-triangles-2
+    overflow_mul-triangles
+    returns-then-out-triangles
+    overflow_cast-vertices-2
+    slice_bounds-take_triangles-end
+    take_triangles-judged-requires
+    enum_told-in-Mesh
+    enum_told-in_default-judged
+    shape_of-out-in_default-judged
+    returns-in_default-judged
+    slice_bounds-take_triangles-end-2
+    take_triangles-requires
+    shape_of-out
+    returns)

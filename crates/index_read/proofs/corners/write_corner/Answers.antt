@@ -17,12 +17,12 @@ use Rattle.index_read.proofs.corners.write_corner.Goals as goal
 
 module _ (out : List ℕ) (k : ℕ) where
   -- a run of another kind than the first is no corner
-  none_written : (answer : Run) → OneOf (1 ∷ 2 ∷ []) (tag_of declared.the_type answer) → out ≡ corner_written answer out k
+  none_written : (answer : Run) → ((value end : ℕ) → ¬ (answer ≡ run.Corner value end))
+      → out ≡ corner_written answer out k
   unfolding corners_said
-  none_written (run.Corner value end) (inl e) = absurd (omega (arith, e))
-  none_written (run.Corner value end) (inr e) = absurd (omega (arith, e))
-  none_written (run.Close end) o = refl
-  none_written run.Wrong o = refl
+  none_written (run.Corner value end) n = absurd (n value end refl)
+  none_written (run.Close end) _ = refl
+  none_written run.Wrong _ = refl
 
   -- there is an entry for a corner
   entry-there : {value end : ℕ} {answer : Run} → CornerLent answer out k → answer ≡ run.Corner value end
@@ -38,7 +38,7 @@ module _ (out : List ℕ) (k : ℕ) where
 
 pub returns-in_default : goal.returns-in_default
 returns-in_default c = let args = c.args in
-    none_written args.out.now args.k args.run c.in_default.in_default-own.keys2
+    none_written args.out.now args.k args.run ?
 
 pub bounds-out-k : goal.bounds-out-k
 bounds-out-k c = entry-there _ _ c.requires c.in-Corner.is

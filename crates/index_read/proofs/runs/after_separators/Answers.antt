@@ -40,11 +40,11 @@ pub loop-at-init : goal.loop-at-init
 loop-at-init c = begun c.requires
 
 pub returns-then-not-is_separator : goal.returns-then-not-is_separator
-returns-then-not-is_separator c = stopped c.loop-at.invariant (sym c.is_separator.ensures ∙ not-true _ c.if-not-is_separator.true)
+returns-then-not-is_separator c = stopped c.loop-at.invariant (sym c.is_separator.ensures ∙ c.if-not-is_separator.true)
 
 pub loop-at-preserved : goal.loop-at-preserved
 loop-at-preserved c = passed c.loop-at.invariant c.loop-at-test.true
-    (sym c.is_separator.ensures ∙ not-false _ c.if-not-is_separator.false)
+    (sym c.is_separator.ensures ∙ c.if-not-is_separator.false)
 
 pub returns : goal.returns
 returns c = finished c.loop-at.invariant c.loop-at-test.false

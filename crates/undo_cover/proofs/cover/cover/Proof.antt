@@ -7,106 +7,94 @@ use Rattle.undo_cover.proofs.cover.cover.Statement.{statement}
 use Rattle.undo_cover.proofs.cover.cover.Tie as tie
 
 -- ---- from each call to the one before
-
 abbrev entry : tie.After-others → tie.Start
-entry c = c.before.before.before.before.before.before.before.before.before.before.before
+entry c = c.before.before.before.before.before.before.before.before.before.before
 
-abbrev finding : tie.After-third-vertices → tie.After-others
+abbrev finding : tie.After-third_vertices → tie.After-others
 finding c = c.before.before.before.before
 
-abbrev thirding : tie.After-rows → tie.After-third-vertices
-thirding c = c.before.before.before.before.before.before
+abbrev thirding : tie.After-rows → tie.After-third_vertices
+thirding c = c.before.before.before.before
 
 abbrev start : tie.After-rows → tie.Start
 start c = entry (finding (thirding c))
 
-abbrev covering : tie.After-ring-table → tie.After-rows
-covering c = c.before.before.before.before.before.before.before.before.before
+abbrev covering : tie.After-ring_table → tie.After-rows
+covering c = c.before.before.before.before.before.before.before.before
 
-abbrev ringing : tie.After-slice-known15 → tie.After-ring-table
+abbrev ringing : tie.After-slice_known-15-1 → tie.After-ring_table
 ringing c = c.before.before.before.before.before.before.before.before.before.before
 
 -- ---- the answers
-
-mul-others : tie.Need-overflow-mul-others
-mul-others c = search rules
+overflow_mul-triangles : tie.Need-overflow_mul-triangles
+overflow_mul-triangles c = search rules
 
 others-requires : tie.Need-others-requires
-others-requires c κs =
-    let s = c.before.before.before.before.before.before.before.before.before.before in
-    cover-others s.requires
+others-requires c κs = cover-others c.requires
 
-third-vertices-requires : tie.Need-third-vertices-requires
-third-vertices-requires c κs = search rules
+third_vertices-requires : tie.Need-third_vertices-requires
+third_vertices-requires c κs = search rules
 
 rows-requires : tie.Need-rows-requires
 rows-requires c κs = search rules
 
-mul-ring-table : tie.Need-overflow-mul-ring-table
-mul-ring-table c = search rules
+overflow_mul-triangles-2 : tie.Need-overflow_mul-triangles-2
+overflow_mul-triangles-2 c = search rules
 
-slice-reshare-prefix-ring-table : tie.Need-slice-reshare-prefix-ring-table
-slice-reshare-prefix-ring-table c = search rules
+slice_bounds-ring_table-end : tie.Need-slice_bounds-ring_table-end
+slice_bounds-ring_table-end c = search rules
 
-slice-aggregate-ring-table : tie.Need-slice-aggregate-ring-table
-slice-aggregate-ring-table c =
-    let r = c.before.before.before in
-    sym (cover-part (start r).requires _ r.rows.auto.1.1.1.0)
+slice_bounds-ring_table-end-2 : tie.Need-slice_bounds-ring_table-end-2
+slice_bounds-ring_table-end-2 c = sym (cover-part (start c.before.before).requires _ c.rows.auto.rows)
 
-ring-table-requires : tie.Need-ring-table-requires
-ring-table-requires c κs =
-    let r = c.before.before.before.before.before.before.before.before in
-    let t = thirding r in
-    cover-rings (start r).requires (finding t).others.ensures t.third-vertices.ensures r.rows.ensures
-    t.third-vertices.kept.1.1.0 r.rows.auto.1.1.1.0
+ring_table-requires : tie.Need-ring_table-requires
+ring_table-requires c κs = cover-rings (start c.before.before.before.before.before.before.before).requires (finding (thirding c.before.before.before.before.before.before.before)).others.ensures c.third_vertices.ensures c.rows.ensures
+    c.third_vertices.auto.thirds c.rows.auto.rows
 
-same_length : tie.Need-same-length
-same_length c = (finding (thirding (covering (ringing c)))).others.auto.1.1.0
+shape_of-other : tie.Need-shape_of-other
+shape_of-other c = (finding (thirding (covering (ringing c)))).others.auto.other
 
-same-length-2 : tie.Need-same-length-2
-same-length-2 c = (covering (ringing c)).rows.auto.1.1.1.0
+shape_of-tiles : tie.Need-shape_of-tiles
+shape_of-tiles c = (covering (ringing c)).rows.auto.rows
 
-same-length-3 : tie.Need-same-length-3
-same-length-3 c = (ringing c).ring-table.auto.1.1.1.1.1.1.1.0
+shape_of-ring : tie.Need-shape_of-ring
+shape_of-ring c = (ringing c).ring_table.auto.ring
 
-same-length-4 : tie.Need-same-length-4
-same-length-4 c =
-    (ringing c).ring-table.auto.1.1.1.0 ∙ (thirding (covering (ringing c))).third-vertices.auto.1.1.0
+shape_of-work1 : tie.Need-shape_of-work1
+shape_of-work1 c = (ringing c).ring_table.auto.greater ∙ (thirding (covering (ringing c))).third_vertices.auto.thirds
 
-same-length-5 : tie.Need-same-length-5
-same-length-5 c = (ringing c).ring-table.auto.1.1.1.1.0
+shape_of-work2 : tie.Need-shape_of-work2
+shape_of-work2 c = (ringing c).ring_table.auto.head
 
-same-length-6 : tie.Need-same-length-6
-same-length-6 c = (ringing c).ring-table.auto.1.1.1.1.1.0
+shape_of-work3 : tie.Need-shape_of-work3
+shape_of-work3 c = (ringing c).ring_table.auto.stamp
 
-same-length-7 : tie.Need-same-length-7
-same-length-7 c = (ringing c).ring-table.auto.1.1.1.1.1.1.0
+shape_of-work4 : tie.Need-shape_of-work4
+shape_of-work4 c = (ringing c).ring_table.auto.last
 
 returns : tie.Need-returns
-returns c =
-    let e = ringing c in
-    let r = covering e in
+returns c = let r = covering (ringing c) in
     let t = thirding r in
-    cover-made (start r).pre (finding t).others.ensures t.third-vertices.ensures r.rows.ensures
-    e.ring-table.ensures
+    cover-made (start r).requires (finding t).others.ensures c.third_vertices.ensures r.rows.ensures
+    c.ring_table.ensures
 
-pub cover-spec : {M : Type 1} → statement M
-cover-spec =
+pub cover_spec : {M : Type 1} → statement M
+cover_spec =
     tie.close
     (tie.spec
-    mul-others
+    overflow_mul-triangles
     others-requires
-    third-vertices-requires
+    third_vertices-requires
     rows-requires
-    mul-ring-table
-    slice-reshare-prefix-ring-table
-    slice-aggregate-ring-table
-    ring-table-requires
-    same_length
-    same-length-2
-    same-length-3
-    same-length-4
-    same-length-5
-    same-length-6
-    same-length-7
+    overflow_mul-triangles-2
+    slice_bounds-ring_table-end
+    slice_bounds-ring_table-end-2
+    ring_table-requires
+    shape_of-other
+    shape_of-tiles
+    shape_of-ring
+    shape_of-work1
+    shape_of-work2
+    shape_of-work3
+    shape_of-work4
     returns)

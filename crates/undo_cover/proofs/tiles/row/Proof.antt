@@ -106,128 +106,117 @@ module _ {k F : ℕ} {other thirds rows : List ℕ} (L : RowLent k F other third
     written M (equal same) = flattened (no_row same) refl
 
 -- where the function begins
-abbrev start : tie.After-all-mated → tie.Start
+abbrev start : tie.After-all_mated → tie.Start
 start c = c.before.before.before.before
 
 -- where the code goes on, all edges have mates
-mated : (c : tie.Else1) → let a = (start c.before).args in AllMated (3 * a.triangles) a.other.now a.k
-mated c = c.before.all-mated.ensures.sound (not-false _ c.if1.false)
+mated : (c : tie.Else-not-all_mated) → let a = (start c.before).args in AllMated (3 * a.triangles) a.other.now a.k
+mated c = c.all_mated.ensures.sound c.if-not-all_mated.false
 
 -- each mate that was read has a vertex across
 read_a : (c : tie.After-at) → c.at.result < length (start c.before.before).args.thirds.now
 read_a c = mate-third (start c.before.before).requires (mated c.before) 2 (omega arith) c.at.ensures
 
-read-b : (c : tie.After-at2) → c.at2.result < length (start c.before.before.before.before).args.thirds.now
+read-b : (c : tie.After-at-2) → c.at-2.result < length (start c.before.before.before.before).args.thirds.now
 read-b c =
-    let on = c.before.before.before in
-    mate-third (start on.before).requires (mated on) 0 (omega arith) (rw add-zero c.at2.ensures)
+    mate-third (start c.before.before.before.before).requires (mated c.before.before.before) 0 (omega arith) (rw add-zero c.at-2.ensures)
 
-read-c : (c : tie.After-at3)
-    → c.at3.result < length (start c.before.before.before.before.before.before).args.thirds.now
+read-c : (c : tie.After-at-3)
+    → c.at-3.result < length (start c.before.before.before.before.before.before).args.thirds.now
 read-c c =
-    let on = c.before.before.before.before.before in
-    mate-third (start on.before).requires (mated on) 1 (omega arith) c.at3.ensures
+    mate-third (start c.before.before.before.before.before.before).requires (mated c.before.before.before.before.before) 1 (omega arith) c.at-3.ensures
 
-mul-all-mated : tie.Need-overflow-mul-all-mated
-mul-all-mated c = search rules
+overflow_mul-triangles : tie.Need-overflow_mul-triangles
+overflow_mul-triangles c = search rules
 
-all-mated-requires : tie.Need-all-mated-requires
-all-mated-requires c κs = search rules
+all_mated-requires : tie.Need-all_mated-requires
+all_mated-requires c κs = search rules
 
-write-three-requires : tie.Need-write-three-requires
-write-three-requires c κs = search rules
+write_three-requires : tie.Need-write_three-requires
+write_three-requires c κs = search rules
 
-same_length : tie.Need-same-length
-same_length c = search rules
+shape_of-rows-then-not-all_mated : tie.Need-shape_of-rows-then-not-all_mated
+shape_of-rows-then-not-all_mated c = search rules
 
-returns : tie.Need-returns
-returns c =
-    let call = c.before.before in
-    let test = call.before.before in
-    unmated (start test.before).requires (decided-not test.before.all-mated.ensures (not-true _ test.if1.true))
-    call.write-three.ensures
+returns-then-not-all_mated : tie.Need-returns-then-not-all_mated
+returns-then-not-all_mated c = unmated (start c.before.before.before.before.before).requires (decided-not c.all_mated.ensures c.if-not-all_mated.true)
+    c.write_three.ensures
 
-mul_at : tie.Need-overflow-mul-at
-mul_at c = search rules
+overflow_mul-k : tie.Need-overflow_mul-k
+overflow_mul-k c = search rules
 
-add_at : tie.Need-overflow-add-at
-add_at c = search rules
+overflow_add-k : tie.Need-overflow_add-k
+overflow_add-k c = search rules
 
 at-requires : tie.Need-at-requires
 at-requires c κs = search rules
 
-mul-a : tie.Need-overflow-mul-a
-mul-a c = omega (arith, read_a c)
+offset_bounds-thirds-at : tie.Need-offset_bounds-thirds-at
+offset_bounds-thirds-at c = omega (arith, read_a c)
 
-shared-slice-read-a : tie.Need-shared-slice-read-a
-shared-slice-read-a c = read_a c.before
+bounds-thirds-at : tie.Need-bounds-thirds-at
+bounds-thirds-at c = read_a c.before
 
-mul-at-2 : tie.Need-overflow-mul-at-2
-mul-at-2 c = search rules
+overflow_mul-k-2 : tie.Need-overflow_mul-k-2
+overflow_mul-k-2 c = search rules
 
 at-requires-2 : tie.Need-at-requires-2
 at-requires-2 c κs = search rules
 
-mul-b : tie.Need-overflow-mul-b
-mul-b c = omega (arith, read-b c)
+offset_bounds-thirds-at-2 : tie.Need-offset_bounds-thirds-at-2
+offset_bounds-thirds-at-2 c = omega (arith, read-b c)
 
-shared-slice-read-b : tie.Need-shared-slice-read-b
-shared-slice-read-b c = read-b c.before
+bounds-thirds-at-2 : tie.Need-bounds-thirds-at-2
+bounds-thirds-at-2 c = read-b c.before
 
-mul-at-3 : tie.Need-overflow-mul-at-3
-mul-at-3 c = search rules
+overflow_mul-k-3 : tie.Need-overflow_mul-k-3
+overflow_mul-k-3 c = search rules
 
-add-at-2 : tie.Need-overflow-add-at-2
-add-at-2 c = search rules
+overflow_add-k-2 : tie.Need-overflow_add-k-2
+overflow_add-k-2 c = search rules
 
 at-requires-3 : tie.Need-at-requires-3
 at-requires-3 c κs = search rules
 
-mul-c : tie.Need-overflow-mul-c
-mul-c c = omega (arith, read-c c)
+offset_bounds-thirds-at-3 : tie.Need-offset_bounds-thirds-at-3
+offset_bounds-thirds-at-3 c = omega (arith, read-c c)
 
-shared-slice-read-c : tie.Need-shared-slice-read-c
-shared-slice-read-c c = read-c c.before
+bounds-thirds-at-3 : tie.Need-bounds-thirds-at-3
+bounds-thirds-at-3 c = read-c c.before
 
-write-row-requires : tie.Need-write-row-requires
-write-row-requires c κs = search rules
+write_row-requires : tie.Need-write_row-requires
+write_row-requires c κs = search rules
 
-same-length-2 : tie.Need-same-length-2
-same-length-2 c = search rules
+shape_of-rows : tie.Need-shape_of-rows
+shape_of-rows c = search rules
 
-returns-2 : tie.Need-returns-2
-returns-2 c =
-    let call = c.before.before in
-    let third = call.before.before.before in
-    let second = third.before.before in
-    let first = second.before.before in
-    let on = first.before in
-    written (start on.before).requires second.at2.ensures third.at3.ensures first.at.ensures (mated on)
-    call.write-row.ensures
+returns : tie.Need-returns
+returns c = written (start c.before.before.before.before.before.before.before.before.before.before.before).requires c.at-2.ensures c.at-3.ensures c.at.ensures (mated c.before.before.before.before.before.before.before.before.before.before)
+    c.write_row.ensures
 
-pub row-spec : {M : Type 1} → statement M
-row-spec =
+pub row_spec : {M : Type 1} → statement M
+row_spec =
     tie.close
     (tie.spec
-    mul-all-mated
-    all-mated-requires
-    write-three-requires
-    same_length
-    returns
-    mul_at
-    add_at
+    overflow_mul-triangles
+    all_mated-requires
+    write_three-requires
+    shape_of-rows-then-not-all_mated
+    returns-then-not-all_mated
+    overflow_mul-k
+    overflow_add-k
     at-requires
-    mul-a
-    shared-slice-read-a
-    mul-at-2
+    offset_bounds-thirds-at
+    bounds-thirds-at
+    overflow_mul-k-2
     at-requires-2
-    mul-b
-    shared-slice-read-b
-    mul-at-3
-    add-at-2
+    offset_bounds-thirds-at-2
+    bounds-thirds-at-2
+    overflow_mul-k-3
+    overflow_add-k-2
     at-requires-3
-    mul-c
-    shared-slice-read-c
-    write-row-requires
-    same-length-2
-    returns-2)
+    offset_bounds-thirds-at-3
+    bounds-thirds-at-3
+    write_row-requires
+    shape_of-rows
+    returns)

@@ -5,8 +5,7 @@ use mathlib.Core.List.{List}
 use Rattle.theory.specs.Frames.{digit_value}
 use Rattle.theory.proofs.Finite.{tabulate, tabulate-length, tabulate-at}
 use Rattle.frames_read.specs.Parts.{entry_of, DigitTable}
-use Rattle.frames_read.proofs.digits.digit_table.Statement.{statement}
-use Rattle.frames_read.proofs.digits.digit_table.Tie as tie
+use Rattle.frames_read.proofs.digits.digit_table.Goals as goal
 
 -- the entries of all bytes
 all : List ℕ
@@ -18,9 +17,6 @@ table_is : DigitTable all
 unfolding all
 table_is = record { long = tabulate-length entry_of 256; entries = tabulate-at entry_of 256 }
 
-returns : tie.Need-returns
+pub returns : goal.returns
 unfolding all
 returns c = table_is
-
-pub digit-table-spec : {M : Type 1} → statement M
-digit-table-spec = tie.close (tie.spec returns)

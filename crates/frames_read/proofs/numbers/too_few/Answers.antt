@@ -9,8 +9,7 @@ use borrow.Author.Tests.{ltb-true, ltb-false}
 use lib.Dec.{ltb}
 use lib.ListN.{length}
 use Rattle.frames_read.specs.Parts.{TooFew}
-use Rattle.frames_read.proofs.numbers.too_few.Statement.{statement}
-use Rattle.frames_read.proofs.numbers.too_few.Tie as tie
+use Rattle.frames_read.proofs.numbers.too_few.Goals as goal
 
 module _ {at count : ℕ} {bytes : List ℕ} where
   -- there are fewer bytes altogether
@@ -27,14 +26,8 @@ module _ {at count : ℕ} {bytes : List ℕ} where
     enough = λ e. omega (arith, ltb-false (length bytes - count) at e);
   }
 
-returns : tie.Need-returns
-returns c = all-few c.if1.true
+pub returns-then-bytes-count : goal.returns-then-bytes-count
+returns-then-bytes-count c = all-few c.if-bytes-count.true
 
-sub-result : tie.Need-overflow-sub-result
-sub-result c = search rules
-
-returns-2 : tie.Need-returns-2
-returns-2 c = decided c.before.if1.false
-
-pub too-few-spec : {M : Type 1} → statement M
-too-few-spec = tie.close (tie.spec returns sub-result returns-2)
+pub returns : goal.returns
+returns c = decided c.if-bytes-count.false

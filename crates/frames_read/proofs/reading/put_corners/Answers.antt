@@ -8,8 +8,7 @@ use lib.Seq.{sets}
 use borrow.Author.Rules.{rules}
 use borrow.Author.Tests.{not-true, not-false}
 use Rattle.frames_read.specs.Judging.{CornersPut}
-use Rattle.frames_read.proofs.reading.put_corners.Statement.{statement}
-use Rattle.frames_read.proofs.reading.put_corners.Tie as tie
+use Rattle.frames_read.proofs.reading.put_corners.Goals as goal
 
 module _ {k : ℕ} {writing : Bool} {a b c : ℕ} {out : List ℕ} where
   -- nothing is to be written
@@ -24,19 +23,8 @@ module _ {k : ℕ} {writing : Bool} {a b c : ℕ} {out : List ℕ} where
     stays = λ not. let z : ◌≡◌ {A = ℕ} 0 1 = cc in absurd (omega arith);
   }
 
-returns : tie.Need-returns
-returns c = stays (not-true _ c.if1.true)
+pub returns-then-not-writing : goal.returns-then-not-writing
+returns-then-not-writing c = stays c.if-not-writing.true
 
-write-three-requires : tie.Need-write-three-requires
-write-three-requires c κs = search rules
-
-same_length : tie.Need-same-length
-same_length c = search rules
-
-returns-2 : tie.Need-returns-2
-returns-2 c =
-    let w = c.before.before in
-    puts (not-false _ w.before.before.if1.false) w.write-three.ensures (omega arith) (omega arith) (omega arith)
-
-pub put-corners-spec : {M : Type 1} → statement M
-put-corners-spec = tie.close (tie.spec returns write-three-requires same_length returns-2)
+pub returns : goal.returns
+returns c = puts c.if-not-writing.false c.write_three.ensures (omega arith) (omega arith) (omega arith)

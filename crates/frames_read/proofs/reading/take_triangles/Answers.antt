@@ -1,6 +1,3 @@
--- `frames_read::reading::take_triangles` meets its contract. The invariant: the first k lines are read, up to the
--- cursor, and their corners stand in front of what was there, if they are to be written. The measure is what is left of
--- the lines.
 use native.Mathlib.Omega.{arith}
 use Prim.Native.Nat.{ℕ, ◌+◌, ◌-◌, ◌*◌, ◌≤◌, ◌<◌}
 use mathlib.Core.Path.{◌≡◌, ◌∙◌, refl, sym, ap}
@@ -17,18 +14,8 @@ use Rattle.frames_read.specs.Judging.{CornersPut, TrianglesLent, right, wrong, T
 use Rattle.frames_read.specs.declared.reading.Verdict.TheVariants.{Mesh, Refused}
 use Rattle.frames_read.proofs.Triangles.{whole-taken, refused-not-taken, Reached, reached-none, reached-more}
 use Rattle.frames_read.proofs.Triangles.{reached-wrong, reached-behind, reached-end, reached-right}
-use Rattle.frames_read.proofs.reading.take_triangles.Statement.{statement}
-use Rattle.frames_read.proofs.reading.take_triangles.Tie as tie
-
-record Turn (bytes table : List ℕ) (F start : ℕ) (writing : Bool) (out₀ out : List ℕ) (place k : ℕ) : Type 0 where
-  lent : TrianglesLent F table out₀
-  within : k ≤ F
-  kept : length out ≡ length out₀
-  so_far : List ℕ
-  long : length so_far ≡ 3 * k
-  puts : writing ≡ true → out ≡ so_far ++ drop (3 * k) out₀
-  stays : writing ≡ false → out ≡ out₀
-  reached : Reached bytes F start k place so_far
+use Rattle.frames_read.proofs.reading.take_triangles.Invariants.{Turn}
+use Rattle.frames_read.proofs.reading.take_triangles.Goals as goal
 
 -- nothing is read at first
 begun : {bytes table : List ℕ} {F place : ℕ} {writing : Bool} {out : List ℕ} → TrianglesLent F table out
@@ -107,91 +94,29 @@ module _ {bytes table : List ℕ} {F start : ℕ} {writing : Bool} {out₀ out :
     stays = I.stays;
   }
 
-abbrev invariant-loop : tie.invariant-loop
-invariant-loop bytes table vertices triangles writing out₀ cursor₀ k₀ out cursor k =
-    Turn bytes table triangles cursor₀.at writing out₀ out cursor.at k
+pub loop-k-init : goal.loop-k-init
+loop-k-init c = begun c.requires
 
-abbrev decreases-loop : tie.decreases-loop
-decreases-loop bytes table vertices triangles writing out₀ cursor₀ k₀ out cursor k = triangles - k
+pub take_triangle-requires : goal.take_triangle-requires
+take_triangle-requires c = c.loop-k.invariant.lent.looked
 
-loop-holds : tie.Need-loop-init invariant-loop decreases-loop
-loop-holds c = begun c.before.before.before.requires
+pub overflow_add-result : goal.overflow_add-result
+overflow_add-result c = omega (arith, c.loop-k.invariant.lent.few)
 
-take-triangle-requires : tie.Need-take-triangle-requires invariant-loop decreases-loop
-take-triangle-requires c κs = c.before.loop.invariant.lent.looked
+pub returns-in_default : goal.returns-in_default
+returns-in_default c = missing c.loop-k.invariant c.loop-k-test.true
+    (refused-not-taken _ _ (sym (ap (triangle_given _) c.in_default.is) ∙ c.take_triangle.ensures))
 
-enum-known-a : tie.Need-enum-known-a invariant-loop decreases-loop
-enum-known-a c = search rules
+pub put_corners-requires : goal.put_corners-requires
+put_corners-requires c = room c.loop-k.invariant c.loop-k-test.true
 
-enum_told : tie.Need-enum-told invariant-loop decreases-loop
-enum_told c = search rules
+pub loop-k-preserved : goal.loop-k-preserved
+loop-k-preserved c = turned c.loop-k.invariant c.loop-k-test.true
+    (whole-taken _ _ (sym (ap (triangle_given _) c.in-Holds.is) ∙ c.take_triangle.ensures))
+    c.put_corners.ensures
 
-add-t16 : tie.Need-overflow-add-t16 invariant-loop decreases-loop
-add-t16 c = omega (arith, c.before.before.before.before.loop.invariant.lent.few)
+pub returns-then-cursor-bytes : goal.returns-then-cursor-bytes
+returns-then-cursor-bytes c = behind c.loop-k.invariant c.loop-k-test.false c.if-cursor-bytes.true
 
-same_length : tie.Need-same-length invariant-loop decreases-loop
-same_length c = omega arith
-
-returns : tie.Need-returns invariant-loop decreases-loop
-returns c =
-    let t = c.before.before in
-    missing t.before.before.loop.invariant t.before.loop-test.true
-    (refused-not-taken _ _ (sym (ap (triangle_given _) c.enum_told.given.1) ∙ t.take-triangle.ensures))
-
-put-corners-requires : tie.Need-put-corners-requires invariant-loop decreases-loop
-put-corners-requires c κs =
-    let t = c.before.before.before.before.before in
-    room t.before.loop.invariant t.loop-test.true
-
-add-k : tie.Need-overflow-add-k invariant-loop decreases-loop
-add-k c = omega arith
-
-loop-less : tie.Need-loop-smaller invariant-loop decreases-loop
-loop-less c = omega arith
-
-loop-again : tie.Need-loop-preserved invariant-loop decreases-loop
-loop-again c =
-    let p = c.before.before in
-    let told = p.before.before in
-    let t = told.before.before.before in
-    turned t.before.before.loop.invariant t.before.loop-test.true
-    (whole-taken _ _ (sym (ap (triangle_given _) told.before.a.given.1) ∙ t.take-triangle.ensures))
-    p.put-corners.ensures
-
-add-t23 : tie.Need-overflow-add-t23 invariant-loop decreases-loop
-add-t23 c = omega arith
-
-same-length-2 : tie.Need-same-length-2 invariant-loop decreases-loop
-same-length-2 c = omega arith
-
-returns-2 : tie.Need-returns-2 invariant-loop decreases-loop
-returns-2 c = behind c.before.before.before.loop.invariant c.before.before.loop-test.false c.if1.true
-
-same-length-3 : tie.Need-same-length-3 invariant-loop decreases-loop
-same-length-3 c = omega arith
-
-returns-3 : tie.Need-returns-3 invariant-loop decreases-loop
-returns-3 c = finished c.before.before.before.loop.invariant c.before.before.loop-test.false c.if1.false
-
-pub take-triangles-spec : {M : Type 1} → statement M
-take-triangles-spec =
-    tie.close
-    (tie.spec
-    invariant-loop
-    decreases-loop
-    loop-holds
-    take-triangle-requires
-    enum-known-a
-    enum_told
-    add-t16
-    same_length
-    returns
-    put-corners-requires
-    add-k
-    loop-less
-    loop-again
-    add-t23
-    same-length-2
-    returns-2
-    same-length-3
-    returns-3)
+pub returns : goal.returns
+returns c = finished c.loop-k.invariant c.loop-k-test.false c.if-cursor-bytes.false
