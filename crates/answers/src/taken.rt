@@ -9,7 +9,7 @@ use lists::copy;
 
 // A role that has a reading, with the counts of its coarse mesh; or the triangle that stands in the way, where there is
 // a reading by the old rule alone; or nothing, where there is none.
-#[derive(Drop)]
+#[derive(Clone, Copy)]
 pub enum Taken {
     Reading {
         role: usize,

@@ -205,31 +205,27 @@ shape_of-work4-then-verdict-ne0 : tie.Need-shape_of-work4-then-verdict-ne0
 shape_of-work4-then-verdict-ne0 c = (judged c.before.before).judge-verdict.auto.work4
 
 returns-then-verdict-ne0 : tie.Need-returns-then-verdict-ne0
-returns-then-verdict-ne0 c = refusing (ready (unrefused c.before.before.before.before.before.before.before.before.before.before.before.before.before.before)) c.judge-verdict.ensures c.if-verdict-ne0.true c.refused-then-verdict-ne0.ensures
+returns-then-verdict-ne0 c = refusing (ready (unrefused (judged c.before.before).before)) (judged c.before.before).judge-verdict.ensures c.if-verdict-ne0.true c.refused-then-verdict-ne0.ensures
 
 overflow_mul-triangles : tie.Need-overflow_mul-triangles
 overflow_mul-triangles c = omega (arith, (ready (unrefused (judged c.before).before)).sizes.few)
 
 number_edges-edges-requires : tie.Need-number_edges-edges-requires
-number_edges-edges-requires c κs = numberable (ready (unrefused c.before.before.before.before.before.before.before.before.before.before.before.before.before.before)) (c.judge-verdict.ensures.ringed c.if-verdict-ne0.false) c.judge-verdict.auto.ring c.judge-verdict.auto.work1
+number_edges-edges-requires c κs =
+    numberable (ready (unrefused (judged (left c).before).before)) ((judged (left c).before).judge-verdict.ensures.ringed (left c).if-verdict-ne0.false)
+    c.judge-verdict.auto.ring c.judge-verdict.auto.work1
 
 write_fours-requires : tie.Need-write_fours-requires
-write_fours-requires c κs = let j = judged (left c.before.before.before.before).before in
-    writable (ready (unrefused j.before)) (c.number_edges-edges.auto.numbers ∙ j.judge.auto.1.1.1.1.0)
+write_fours-requires c κs = writable (ready (unrefused (judged (left (numbered c).before).before).before)) ((numbered c).number_edges-edges.auto.numbers ∙ (judged (left (numbered c).before).before).judge-verdict.auto.work1)
 
 overflow_mul-triangles-2 : tie.Need-overflow_mul-triangles-2
-overflow_mul-triangles-2 c = let j = judged (left c.before.before.before.before.before.before.before).before in
-    omega (arith, (ready (unrefused j.before)).sizes.few)
+overflow_mul-triangles-2 c = omega (arith, (ready (unrefused (judged (left (numbered c.before.before.before).before).before).before)).sizes.few)
 
 count_boundary-boundary-requires : tie.Need-count_boundary-boundary-requires
-count_boundary-boundary-requires c κs = let j = judged (left c.before.before.before.before.before.before.before).before in
-    countable (ready (unrefused j.before)) j.judge.auto.1.1.1.0
+count_boundary-boundary-requires c κs = countable (ready (unrefused (judged (left (numbered c.before.before.before).before).before).before)) (judged (left (numbered c.before.before.before).before).before).judge-verdict.auto.ring
 
 split_counts-requires : tie.Need-split_counts-requires
-split_counts-requires c κs = let n = numbered (writing c).before in
-    let l = left n.before in
-    let j = judged l.before in
-    splittable (ready (unrefused j.before)) (j.judge.ensures.ringed l.if2.left) n.number-edges.ensures
+split_counts-requires c κs = splittable (ready (unrefused (judged (left (numbered (writing c).before).before).before).before)) ((judged (left (numbered (writing c).before).before).before).judge-verdict.ensures.ringed (left (numbered (writing c).before).before).if-verdict-ne0.false) (numbered (writing c).before).number_edges-edges.ensures
     c.count_boundary-boundary.ensures
 
 accepted-requires : tie.Need-accepted-requires
@@ -254,12 +250,8 @@ shape_of-work4 : tie.Need-shape_of-work4
 shape_of-work4 c = (judging c).judge-verdict.auto.work4
 
 returns : tie.Need-returns
-returns c = let w = writing (counting c) in
-    let n = numbered w.before in
-    let l = left n.before in
-    let j = judged l.before in
-    accepting (ready (unrefused j.before)) j.judge.ensures l.if2.left n.number-edges.ensures
-    w.write-fours.ensures c.count_boundary-boundary.ensures c.split_counts.ensures c.accepted.ensures
+returns c = accepting (ready (unrefused (judged (left (numbered (writing (counting c)).before).before).before).before)) (judged (left (numbered (writing (counting c)).before).before).before).judge-verdict.ensures (left (numbered (writing (counting c)).before).before).if-verdict-ne0.false (numbered (writing (counting c)).before).number_edges-edges.ensures
+    (writing (counting c)).write_fours.ensures (counting c).count_boundary-boundary.ensures c.split_counts.ensures c.accepted.ensures
 
 pub split_mesh_spec : {M : Type 1} → statement M
 split_mesh_spec =

@@ -14,32 +14,27 @@ use Rattle.undo_level.proofs.undo_least.Statement.{statement}
 use Rattle.undo_level.proofs.undo_least.Tie as tie
 
 -- ---- from each call to the one before
-
 abbrev entry : tie.After-cover → tie.Start
-entry c =
-    c.before.before.before.before.before.before.before.before.before.before.before.before.before.before.before.before.before.before.before
+entry c = c.before.before.before.before.before.before.before.before.before.before.before.before.before.before.before.before.before.before.before
 
-abbrev covering : tie.After-least-role → tie.After-cover
-covering c =
-    c.before.before.before.before.before.before.before.before.before.before.before.before.before.before.before.before.before.before.before.before.before.before.before.before
+abbrev covering : tie.After-least_role-taken → tie.After-cover
+covering c = c.before.before.before.before.before.before.before.before.before.before.before.before.before.before.before.before.before.before.before.before.before
 
 -- where no reading is taken
-abbrev refusing : tie.At-match-keys2 → tie.After-least-role
-refusing c =
-    c.before.before.before.before.before.before.before.before.before.before.before.before.before
+abbrev refusing : tie.In_default → tie.After-least_role-taken
+refusing c = c.before.before.before.before.before.before.before.before.before.before.before.before.before
 
 -- where a reading is
-abbrev choosing : tie.After-known-told → tie.After-least-role
-choosing c =
-    c.before.before.before.before.before.before.before.before.before.before.before.before.before.before.before
+abbrev choosing : tie.In-Reading → tie.After-least_role-taken
+choosing c = c.before.before.before.before.before.before.before.before.before.before.before.before.before
 
-abbrev taking : tie.After-ring-table → tie.After-known-told
-taking c = c.before.before.before.before.before.before.before
+abbrev taking : tie.After-ring_table → tie.In-Reading
+taking c = c.before.before.before.before.before.before
 
-abbrev tabling : tie.After-slice-known27 → tie.After-ring-table
+abbrev tabling : tie.After-slice_known-27-1 → tie.After-ring_table
 tabling c = c.before.before.before.before.before.before.before.before.before.before
 
-abbrev start : tie.After-least-role → tie.Start
+abbrev start : tie.After-least_role-taken → tie.Start
 start c = entry (covering c)
 
 -- ---- the buffers
@@ -54,218 +49,196 @@ lent s =
 -- once the covering mesh is made
 abbrev covered : tie.After-cover → Buffers
 covered c =
-    let l = c.cover.new.1.1.1 in
-    buffers l.0 l.1.0 l.1.1.0 l.1.1.1.0 l.1.1.1.1.0 l.1.1.1.1.1.0
-    l.1.1.1.1.1.1.0 (entry c).args.faces.now (entry c).args.table.now
+    buffers c.cover.new.other c.cover.new.tiles c.cover.new.ring c.cover.new.work1 c.cover.new.work2 c.cover.new.work3
+    c.cover.new.work4 c.args.faces.now c.args.table.now
 
 -- once the roles are tried
-abbrev chosen : tie.After-least-role → Buffers
+abbrev chosen : tie.After-least_role-taken → Buffers
 chosen c =
     let d = covered (covering c) in
-    let l = c.least-role.new.1.1.1.1.1.1 in
-    buffers d.other d.rows d.ring l.0 l.1.0 l.1.1.0 l.1.1.1.0 l.1.1.1.1.0
-    l.1.1.1.1.1.0
+    buffers d.other d.rows d.ring c.least_role-taken.new.marks c.least_role-taken.new.coarse c.least_role-taken.new.numbers c.least_role-taken.new.map c.least_role-taken.new.faces
+    c.least_role-taken.new.table
 
 -- once the rings of the coarser mesh are made
-abbrev tabled : tie.After-ring-table → Buffers
+abbrev tabled : tie.After-ring_table → Buffers
 tabled c =
     let d = chosen (choosing (taking c)) in
-    let l = c.ring-table.new.1.1.1 in
-    buffers d.other d.rows l.1.1.1.1.0 l.0 d.coarse l.1.0 l.1.1.0 l.1.1.1.0
+    buffers d.other d.rows c.ring_table.new.ring c.ring_table.new.greater d.coarse c.ring_table.new.head c.ring_table.new.stamp c.ring_table.new.last
     d.table
 
 -- they keep their lengths, call by call
 cover-kept : (c : tie.After-cover) → SameLengths (lent (entry c)) (covered c)
 cover-kept c =
-    let k = c.cover.auto.1.1.1 in
     record {
-      other = k.0;
-      rows = k.1.0;
-      ring = k.1.1.0;
-      marks = k.1.1.1.0;
-      coarse = k.1.1.1.1.0;
-      numbers = k.1.1.1.1.1.0;
-      map = k.1.1.1.1.1.1.0;
+      other = c.cover.auto.other;
+      rows = c.cover.auto.tiles;
+      ring = c.cover.auto.ring;
+      marks = c.cover.auto.work1;
+      coarse = c.cover.auto.work2;
+      numbers = c.cover.auto.work3;
+      map = c.cover.auto.work4;
       faces = refl;
       table = refl;
     }
 
-chosen-kept : (c : tie.After-least-role) → SameLengths (lent (start c)) (chosen c)
+chosen-kept : (c : tie.After-least_role-taken) → SameLengths (lent (start c)) (chosen c)
 chosen-kept c =
-    let k = c.least-role.auto.1.1.1.1.1.1 in
     kept_on (cover-kept (covering c))
     (record {
       other = refl;
       rows = refl;
       ring = refl;
-      marks = k.0;
-      coarse = k.1.0;
-      numbers = k.1.1.0;
-      map = k.1.1.1.0;
-      faces = k.1.1.1.1.0;
-      table = k.1.1.1.1.1.0;
+      marks = c.least_role-taken.auto.marks;
+      coarse = c.least_role-taken.auto.coarse;
+      numbers = c.least_role-taken.auto.numbers;
+      map = c.least_role-taken.auto.map;
+      faces = c.least_role-taken.auto.faces;
+      table = c.least_role-taken.auto.table;
     })
 
-tabled-kept : (c : tie.After-ring-table) → SameLengths (lent (start (choosing (taking c)))) (tabled c)
+tabled-kept : (c : tie.After-ring_table) → SameLengths (lent (start (choosing (taking c)))) (tabled c)
 tabled-kept c =
-    let k = c.ring-table.auto.1.1.1 in
     kept_on (chosen-kept (choosing (taking c)))
     (record {
       other = refl;
       rows = refl;
-      ring = k.1.1.1.1.0;
-      marks = k.0;
+      ring = c.ring_table.auto.ring;
+      marks = c.ring_table.auto.greater;
       coarse = refl;
-      numbers = k.1.0;
-      map = k.1.1.0;
-      faces = k.1.1.1.0;
+      numbers = c.ring_table.auto.head;
+      map = c.ring_table.auto.stamp;
+      faces = c.ring_table.auto.last;
       table = refl;
     })
 
 -- ---- the coarser mesh
 
 -- it stands in `coarse` where a reading is taken
-coarser : (c : tie.After-known-told)
-    → let s = start (choosing c) in
-    let r = c.before.taken.given.0 in
-    Coarser s.args.vertices s.args.triangles s.args.list.now (chosen (choosing c)).coarse r.0
-    r.1.0 r.1.1.0
+coarser : (c : tie.In-Reading)
+    → Coarser c.args.vertices c.args.triangles c.args.list.now (chosen (choosing c)).coarse c.in-Reading.role
+    c.in-Reading.kept c.in-Reading.centres
 coarser c =
-    least-found (subst (LeastTried _ _ _ _ _ _) c.before.taken.given.1 (choosing c).least-role.ensures)
+    least-found (subst (LeastTried _ _ _ _ _ _) c.in-Reading.is c.least_role-taken.ensures)
 
 -- and is smaller
-small : (c : tie.After-known-told)
-    → let s = start (choosing c) in
-    let r = c.before.taken.given.0 in
-    Smaller s.args.vertices s.args.triangles (chosen (choosing c)).coarse r.1.0 r.1.1.0
-small c = level-smaller (start (choosing c)).requires (chosen-kept (choosing c)) (coarser c)
+small : (c : tie.In-Reading)
+    → Smaller c.args.vertices c.args.triangles (chosen (choosing c)).coarse c.in-Reading.kept c.in-Reading.centres
+small c = level-smaller c.requires (chosen-kept (choosing c)) (coarser c)
 
 -- ---- the answers
-
-returns : tie.Need-returns
-returns c =
-    let s = c.before.before.before.before.before.before.before.before.before.before.before in
-    level-uneven s.requires.level.mesh c.if1.true
+returns-then-triangles-ne0 : tie.Need-returns-then-triangles-ne0
+returns-then-triangles-ne0 c = level-uneven c.requires.level.mesh c.if-triangles-ne0.true
 
 cover-requires : tie.Need-cover-requires
-cover-requires c κs =
-    let s = c.before.before.before.before.before.before.before.before.before.before.before.before.before.before.before.before.before.before in
-    level-cover s.pre
+cover-requires c κs = level-cover c.requires
 
-least-role-requires : tie.Need-least-role-requires
-least-role-requires c κs =
-    let v = c.before.before.before.before.before.before.before.before.before.before.before.before.before.before.before.before.before.before.before.before.before.before.before in
-    level-roles (entry v).pre (cover-kept v) v.cover.ensures
+least_role-taken-requires : tie.Need-least_role-taken-requires
+least_role-taken-requires c κs = level-roles c.requires (cover-kept c.before.before.before.before.before.before.before.before.before.before.before.before.before.before.before.before.before.before.before.before) c.cover.ensures
 
-enum-known-taken : tie.Need-enum-known-taken
-enum-known-taken c = search rules
+enum_known-taken : tie.Need-enum_known-taken
+enum_known-taken c = search rules
 
-same_length : tie.Need-same-length
-same_length c = (chosen-kept (refusing c)).other
+shape_of-other-in_default : tie.Need-shape_of-other-in_default
+shape_of-other-in_default c = (chosen-kept (refusing c)).other
 
-same-length-2 : tie.Need-same-length-2
-same-length-2 c = (chosen-kept (refusing c)).rows
+shape_of-rows-in_default : tie.Need-shape_of-rows-in_default
+shape_of-rows-in_default c = (chosen-kept (refusing c)).rows
 
-same-length-3 : tie.Need-same-length-3
-same-length-3 c = (chosen-kept (refusing c)).ring
+shape_of-ring-in_default : tie.Need-shape_of-ring-in_default
+shape_of-ring-in_default c = (chosen-kept (refusing c)).ring
 
-same-length-4 : tie.Need-same-length-4
-same-length-4 c = (chosen-kept (refusing c)).marks
+shape_of-marks-in_default : tie.Need-shape_of-marks-in_default
+shape_of-marks-in_default c = (chosen-kept (refusing c)).marks
 
-same-length-5 : tie.Need-same-length-5
-same-length-5 c = (chosen-kept (refusing c)).coarse
+shape_of-coarse-in_default : tie.Need-shape_of-coarse-in_default
+shape_of-coarse-in_default c = (chosen-kept (refusing c)).coarse
 
-same-length-6 : tie.Need-same-length-6
-same-length-6 c = (chosen-kept (refusing c)).numbers
+shape_of-numbers-in_default : tie.Need-shape_of-numbers-in_default
+shape_of-numbers-in_default c = (chosen-kept (refusing c)).numbers
 
-same-length-7 : tie.Need-same-length-7
-same-length-7 c = (chosen-kept (refusing c)).map
+shape_of-map-in_default : tie.Need-shape_of-map-in_default
+shape_of-map-in_default c = (chosen-kept (refusing c)).map
 
-same-length-8 : tie.Need-same-length-8
-same-length-8 c = (chosen-kept (refusing c)).faces
+shape_of-faces-in_default : tie.Need-shape_of-faces-in_default
+shape_of-faces-in_default c = (chosen-kept (refusing c)).faces
 
-same-length-9 : tie.Need-same-length-9
-same-length-9 c = (chosen-kept (refusing c)).table
+shape_of-table-in_default : tie.Need-shape_of-table-in_default
+shape_of-table-in_default c = (chosen-kept (refusing c)).table
 
-returns-2 : tie.Need-returns-2
-returns-2 c = least-none (refusing c).least-role.ensures c.match.keys2
+returns-in_default : tie.Need-returns-in_default
+returns-in_default c = least-none c.least_role-taken.ensures c.in_default.in_default-own.keys2
 
-mul-ring-table : tie.Need-overflow-mul-ring-table
-mul-ring-table c = omega (arith, (small c).fourth, (start (choosing c)).requires.level.mesh.halves)
+overflow_mul-centres : tie.Need-overflow_mul-centres
+overflow_mul-centres c = omega (arith, (small c).fourth, c.requires.level.mesh.halves)
 
-slice-reshare-prefix-ring-table : tie.Need-slice-reshare-prefix-ring-table
-slice-reshare-prefix-ring-table c = (small c).fit
+slice_bounds-ring_table-end : tie.Need-slice_bounds-ring_table-end
+slice_bounds-ring_table-end c = (small c).fit
 
-slice-aggregate-ring-table : tie.Need-slice-aggregate-ring-table
-slice-aggregate-ring-table c = sym (small c.before).whole
+slice_bounds-ring_table-end-2 : tie.Need-slice_bounds-ring_table-end-2
+slice_bounds-ring_table-end-2 c = sym (small c).whole
 
-ring-table-requires : tie.Need-ring-table-requires
-ring-table-requires c κs =
-    let r = c.before.before.before.before.before.before in
-    let t = choosing r in
-    level-rings (start t).pre (chosen-kept t) (coarser r)
+ring_table-requires : tie.Need-ring_table-requires
+ring_table-requires c κs = level-rings c.requires (chosen-kept (choosing c.before.before.before.before.before)) (coarser c.before.before.before.before.before)
 
-same-length-10 : tie.Need-same-length-10
-same-length-10 c = (tabled-kept (tabling c)).other
+shape_of-other : tie.Need-shape_of-other
+shape_of-other c = (tabled-kept (tabling c)).other
 
-same-length-11 : tie.Need-same-length-11
-same-length-11 c = (tabled-kept (tabling c)).rows
+shape_of-rows : tie.Need-shape_of-rows
+shape_of-rows c = (tabled-kept (tabling c)).rows
 
-same-length-12 : tie.Need-same-length-12
-same-length-12 c = (tabled-kept (tabling c)).ring
+shape_of-ring : tie.Need-shape_of-ring
+shape_of-ring c = (tabled-kept (tabling c)).ring
 
-same-length-13 : tie.Need-same-length-13
-same-length-13 c = (tabled-kept (tabling c)).marks
+shape_of-marks : tie.Need-shape_of-marks
+shape_of-marks c = (tabled-kept (tabling c)).marks
 
-same-length-14 : tie.Need-same-length-14
-same-length-14 c = (tabled-kept (tabling c)).coarse
+shape_of-coarse : tie.Need-shape_of-coarse
+shape_of-coarse c = (tabled-kept (tabling c)).coarse
 
-same-length-15 : tie.Need-same-length-15
-same-length-15 c = (tabled-kept (tabling c)).numbers
+shape_of-numbers : tie.Need-shape_of-numbers
+shape_of-numbers c = (tabled-kept (tabling c)).numbers
 
-same-length-16 : tie.Need-same-length-16
-same-length-16 c = (tabled-kept (tabling c)).map
+shape_of-map : tie.Need-shape_of-map
+shape_of-map c = (tabled-kept (tabling c)).map
 
-same-length-17 : tie.Need-same-length-17
-same-length-17 c = (tabled-kept (tabling c)).faces
+shape_of-faces : tie.Need-shape_of-faces
+shape_of-faces c = (tabled-kept (tabling c)).faces
 
-same-length-18 : tie.Need-same-length-18
-same-length-18 c = (tabled-kept (tabling c)).table
+shape_of-table : tie.Need-shape_of-table
+shape_of-table c = (tabled-kept (tabling c)).table
 
-returns-3 : tie.Need-returns-3
-returns-3 c =
-    let e = tabling c in
-    found (coarser (taking e)) e.ring-table.ensures
+returns : tie.Need-returns
+returns c = found (coarser (taking (tabling c))) c.ring_table.ensures
 
-pub undo-least-spec : {M : Type 1} → statement M
-undo-least-spec =
+pub undo_least_spec : {M : Type 1} → statement M
+undo_least_spec =
     tie.close
     (tie.spec
-    returns
+    returns-then-triangles-ne0
     cover-requires
-    least-role-requires
-    enum-known-taken
-    same_length
-    same-length-2
-    same-length-3
-    same-length-4
-    same-length-5
-    same-length-6
-    same-length-7
-    same-length-8
-    same-length-9
-    returns-2
-    mul-ring-table
-    slice-reshare-prefix-ring-table
-    slice-aggregate-ring-table
-    ring-table-requires
-    same-length-10
-    same-length-11
-    same-length-12
-    same-length-13
-    same-length-14
-    same-length-15
-    same-length-16
-    same-length-17
-    same-length-18
-    returns-3)
+    least_role-taken-requires
+    enum_known-taken
+    shape_of-other-in_default
+    shape_of-rows-in_default
+    shape_of-ring-in_default
+    shape_of-marks-in_default
+    shape_of-coarse-in_default
+    shape_of-numbers-in_default
+    shape_of-map-in_default
+    shape_of-faces-in_default
+    shape_of-table-in_default
+    returns-in_default
+    overflow_mul-centres
+    slice_bounds-ring_table-end
+    slice_bounds-ring_table-end-2
+    ring_table-requires
+    shape_of-other
+    shape_of-rows
+    shape_of-ring
+    shape_of-marks
+    shape_of-coarse
+    shape_of-numbers
+    shape_of-map
+    shape_of-faces
+    shape_of-table
+    returns)

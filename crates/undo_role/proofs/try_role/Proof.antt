@@ -15,78 +15,75 @@ use Rattle.undo_role.proofs.try_role.Tie as tie
 -- ---- from each place to the call or the test before
 
 -- the function's start
-abbrev entry : tie.After-find-tiles → tie.Start
-entry c =
-    c.before.before.before.before.before.before.before.before.before.before.before.before.before.before.before
+abbrev entry : tie.After-find_tiles → tie.Start
+entry c = c.before.before.before.before.before.before.before.before.before.before.before.before.before.before.before
 
 -- the call that finds the tiles
-abbrev finding : tie.After-slice-known10 → tie.After-find-tiles
+abbrev finding : tie.After-slice_known-10-1 → tie.After-find_tiles
 finding c = c.before.before.before.before.before.before.before.before
 
 -- where it has found some
-abbrev some-found : tie.After-known-told → tie.After-find-tiles
-some-found c = finding c.before.before.before
+abbrev some-found : tie.In-Holds → tie.After-find_tiles
+some-found c = finding c.before
 
 -- the call that numbers them
-abbrev numbering : tie.After-slice-known14 → tie.After-number-tiles
+abbrev numbering : tie.After-slice_known-14-1 → tie.After-number_tiles
 numbering c = c.before.before.before.before.before.before.before.before
 
 -- where it has numbered all
-abbrev all-numbered : tie.After-known-told2 → tie.After-number-tiles
-all-numbered c = numbering c.before.before.before
+abbrev all-numbered : tie.In-Holds-number_tiles → tie.After-number_tiles
+all-numbered c = numbering c.before
 
 -- the call that maps the vertices
-abbrev mapping : tie.After-slice-known16 → tie.After-map-vertices
+abbrev mapping : tie.After-slice_known-16-1 → tie.After-map_vertices
 mapping c = c.before.before.before.before
 
 -- the test of the vertex map
-abbrev mapped : tie.After-map-triangles → tie.Else1
-mapped c = c.before.before.before.before
+abbrev mapped : tie.After-map_triangles → tie.Else-not-map_vertices
+mapped c = c.before.before.before
 
 -- the call that maps the triangles
-abbrev matching : tie.After-slice-known18 → tie.After-map-triangles
+abbrev matching : tie.After-slice_known-18-1 → tie.After-map_triangles
 matching c = c.before.before.before.before
 
 -- the test of the triangle map
-abbrev matched : tie.After-compare-all → tie.Else2
-matched c = c.before.before.before.before.before.before
+abbrev matched : tie.After-compare_all-compared → tie.Else-not-map_triangles
+matched c = c.before.before
 
 -- the comparison
-abbrev comparing : tie.After-slice-known19 → tie.After-compare-all
+abbrev comparing : tie.After-slice_known-19-1 → tie.After-compare_all-compared
 comparing c = c.before.before
 
 -- ---- from each call to the one before
+abbrev told₂ : tie.After-number_tiles → tie.In-Holds
+told₂ g = g.before.before.before.before.before
 
-abbrev told₂ : tie.After-number-tiles → tie.After-known-told
-told₂ g = g.before.before.before.before.before.before.before
-
-abbrev finding₂ : tie.After-number-tiles → tie.After-find-tiles
+abbrev finding₂ : tie.After-number_tiles → tie.After-find_tiles
 finding₂ g = some-found (told₂ g)
 
-abbrev told₃ : tie.After-map-vertices → tie.After-known-told2
-told₃ v = v.before.before.before.before.before.before.before
+abbrev told₃ : tie.After-map_vertices → tie.In-Holds-number_tiles
+told₃ v = v.before.before.before
 
-abbrev numbering₃ : tie.After-map-vertices → tie.After-number-tiles
+abbrev numbering₃ : tie.After-map_vertices → tie.After-number_tiles
 numbering₃ v = all-numbered (told₃ v)
 
-abbrev mapping₄ : tie.After-map-triangles → tie.After-map-vertices
+abbrev mapping₄ : tie.After-map_triangles → tie.After-map_vertices
 mapping₄ t = mapping (mapped t).before
 
-abbrev matching₅ : tie.After-compare-all → tie.After-map-triangles
+abbrev matching₅ : tie.After-compare_all-compared → tie.After-map_triangles
 matching₅ a = matching (matched a).before
 
 -- ---- from each call to the function's start
-
-abbrev entry₂ : tie.After-number-tiles → tie.Start
+abbrev entry₂ : tie.After-number_tiles → tie.Start
 entry₂ g = entry (finding₂ g)
 
-abbrev entry₃ : tie.After-map-vertices → tie.Start
+abbrev entry₃ : tie.After-map_vertices → tie.Start
 entry₃ v = entry₂ (numbering₃ v)
 
-abbrev entry₄ : tie.After-map-triangles → tie.Start
+abbrev entry₄ : tie.After-map_triangles → tie.Start
 entry₄ t = entry₃ (mapping₄ t)
 
-abbrev entry₅ : tie.After-compare-all → tie.Start
+abbrev entry₅ : tie.After-compare_all-compared → tie.Start
 entry₅ a = entry₄ (matching₅ a)
 
 -- ---- the buffers after each call
@@ -98,71 +95,70 @@ buffers₀ s =
     s.args.numbers.now s.args.map.now s.args.faces.now s.args.table.now
 
 -- with the tiles
-abbrev buffers₁ : tie.After-find-tiles → Buffers
+abbrev buffers₁ : tie.After-find_tiles → Buffers
 buffers₁ f =
     let b = buffers₀ (entry f) in
-    buffers b.other b.rows b.ring f.find-tiles.new.1.1.1.1.1.1.0 b.coarse b.numbers
-    f.find-tiles.new.1.1.1.1.1.1.1.1.0 f.find-tiles.new.1.1.1.1.1.1.1.0
-    f.find-tiles.new.1.1.1.1.1.1.1.1.1.0
+    buffers b.other b.rows b.ring f.find_tiles.new.marks b.coarse b.numbers
+    f.find_tiles.new.queue f.find_tiles.new.kept
+    f.find_tiles.new.opened
 
 -- with the coarse mesh and its numbers
-abbrev buffers₂ : tie.After-number-tiles → Buffers
+abbrev buffers₂ : tie.After-number_tiles → Buffers
 buffers₂ g =
     let b = buffers₁ (finding₂ g) in
-    buffers b.other b.rows b.ring b.marks g.number-tiles.last.1.1.1.1.1.1.0
-    g.number-tiles.last.1.1.1.1.1.1.1.0 g.number-tiles.last.1.1.1.1.1.1.1.1.0 b.faces
-    g.number-tiles.last.1.1.1.1.1.1.1.1.1.0
+    buffers b.other b.rows b.ring b.marks g.number_tiles.new.coarse
+    g.number_tiles.new.numbers g.number_tiles.new.rank b.faces
+    g.number_tiles.new.table
 
 -- with the vertex map
-abbrev buffers₃ : tie.After-map-vertices → Buffers
+abbrev buffers₃ : tie.After-map_vertices → Buffers
 buffers₃ v =
     let b = buffers₂ (numbering₃ v) in
     buffers b.other b.rows b.ring b.marks b.coarse b.numbers
-    v.map-vertices.new.1.1.1.1.1.1.1.0 b.faces v.map-vertices.new.1.1.1.1.1.1.1.1.0
+    v.map_vertices.new.map b.faces v.map_vertices.new.corners
 
 -- with the triangle map
-abbrev buffers₄ : tie.After-map-triangles → Buffers
+abbrev buffers₄ : tie.After-map_triangles → Buffers
 buffers₄ t =
     let b = buffers₃ (mapping₄ t) in
     buffers b.other b.rows b.ring b.marks b.coarse b.numbers b.map
-    t.map-triangles.new.1.1.1.0 t.map-triangles.new.1.1.1.1.0
+    t.map_triangles.new.map t.map_triangles.new.claimed
 
 -- with the splitting
-abbrev buffers₅ : tie.After-compare-all → Buffers
+abbrev buffers₅ : tie.After-compare_all-compared → Buffers
 buffers₅ a =
     let b = buffers₄ (matching₅ a) in
     buffers b.other b.rows b.ring b.marks b.coarse b.numbers b.map b.faces
-    a.compare-all.new.1.1.1.1.1.1.1.0
+    a.compare_all-compared.new.splitting
 
 -- ---- they keep their lengths
-
-same₁ : (f : tie.After-find-tiles) → SameLengths (buffers₀ (entry f)) (buffers₁ f)
+same₁ : (f : tie.After-find_tiles) → SameLengths (buffers₀ (entry f)) (buffers₁ f)
 same₁ f = record {
   other = refl;
   rows = refl;
   ring = refl;
-  marks = f.find-tiles.auto.1.1.1.1.1.1.0;
+  marks = f.find_tiles.auto.marks;
   coarse = refl;
   numbers = refl;
-  map = f.find-tiles.auto.1.1.1.1.1.1.1.1.0;
-  faces = f.find-tiles.auto.1.1.1.1.1.1.1.0;
-  table = f.find-tiles.auto.1.1.1.1.1.1.1.1.1.0;
+  map = f.find_tiles.auto.queue;
+  faces = f.find_tiles.auto.kept;
+  table = f.find_tiles.auto.opened;
 }
 
-same₂ : (g : tie.After-number-tiles) → SameLengths (buffers₀ (entry₂ g)) (buffers₂ g)
+same₂ : (g : tie.After-number_tiles) → SameLengths (buffers₀ (entry₂ g)) (buffers₂ g)
 same₂ g = kept_on (same₁ (finding₂ g)) (record {
   other = refl;
   rows = refl;
   ring = refl;
   marks = refl;
-  coarse = g.number-tiles.auto.1.1.1.1.1.1.0;
-  numbers = g.number-tiles.auto.1.1.1.1.1.1.1.0;
-  map = g.number-tiles.auto.1.1.1.1.1.1.1.1.0;
+  coarse = g.number_tiles.auto.coarse;
+  numbers = g.number_tiles.auto.numbers;
+  map = g.number_tiles.auto.rank;
   faces = refl;
-  table = g.number-tiles.auto.1.1.1.1.1.1.1.1.1.0;
+  table = g.number_tiles.auto.table;
 })
 
-same₃ : (v : tie.After-map-vertices) → SameLengths (buffers₀ (entry₃ v)) (buffers₃ v)
+same₃ : (v : tie.After-map_vertices) → SameLengths (buffers₀ (entry₃ v)) (buffers₃ v)
 same₃ v = kept_on (same₂ (numbering₃ v)) (record {
   other = refl;
   rows = refl;
@@ -170,12 +166,12 @@ same₃ v = kept_on (same₂ (numbering₃ v)) (record {
   marks = refl;
   coarse = refl;
   numbers = refl;
-  map = v.map-vertices.auto.1.1.1.1.1.1.1.0;
+  map = v.map_vertices.auto.map;
   faces = refl;
-  table = v.map-vertices.auto.1.1.1.1.1.1.1.1.0;
+  table = v.map_vertices.auto.corners;
 })
 
-same₄ : (t : tie.After-map-triangles) → SameLengths (buffers₀ (entry₄ t)) (buffers₄ t)
+same₄ : (t : tie.After-map_triangles) → SameLengths (buffers₀ (entry₄ t)) (buffers₄ t)
 same₄ t = kept_on (same₃ (mapping₄ t)) (record {
   other = refl;
   rows = refl;
@@ -184,11 +180,11 @@ same₄ t = kept_on (same₃ (mapping₄ t)) (record {
   coarse = refl;
   numbers = refl;
   map = refl;
-  faces = t.map-triangles.auto.1.1.1.0;
-  table = t.map-triangles.auto.1.1.1.1.0;
+  faces = t.map_triangles.auto.map;
+  table = t.map_triangles.auto.claimed;
 })
 
-same₅ : (a : tie.After-compare-all) → SameLengths (buffers₀ (entry₅ a)) (buffers₅ a)
+same₅ : (a : tie.After-compare_all-compared) → SameLengths (buffers₀ (entry₅ a)) (buffers₅ a)
 same₅ a = kept_on (same₄ (matching₅ a)) (record {
   other = refl;
   rows = refl;
@@ -198,7 +194,7 @@ same₅ a = kept_on (same₄ (matching₅ a)) (record {
   numbers = refl;
   map = refl;
   faces = refl;
-  table = a.compare-all.auto.1.1.1.1.1.1.1.0;
+  table = a.compare_all-compared.auto.splitting;
 })
 
 -- so the room stays
@@ -206,310 +202,265 @@ roomy : (s : tie.Start) {b : Buffers} → SameLengths (buffers₀ s) b → Rooms
 roomy s same = rooms-kept (omega arith) s.requires.lent.rooms same
 
 -- ---- the tiles that are found
-
-tiles : (k : tie.After-known-told)
-    → let f = some-found k in
-    let s = entry f in
-    Picked s.args.role s.args.vertices s.args.triangles k.before.count.given.0.0 s.args.list.now
-    s.args.rows.now (buffers₁ f).marks (buffers₁ f).faces
+tiles : (k : tie.In-Holds)
+    → Picked k.args.role k.args.vertices k.args.triangles k.in-Holds.count k.args.list.now
+    k.args.rows.now (buffers₁ (some-found k)).marks (buffers₁ (some-found k)).faces
 tiles k =
-    let f = some-found k in
-    picked (entry f).pre f.find-tiles.ensures k.before.count.given.1
+    picked k.requires k.find_tiles.ensures k.in-Holds.is
 
 -- ---- the answers
+find_tiles-requires : tie.Need-find_tiles-requires
+find_tiles-requires c κs = findable c.requires
 
-find-tiles-requires : tie.Need-find-tiles-requires
-find-tiles-requires c κs =
-    let s = c.before.before.before.before.before.before.before.before.before.before.before.before.before.before in
-    findable s.pre
+enum_known-count : tie.Need-enum_known-count
+enum_known-count c = search rules
 
-enum-known-count : tie.Need-enum-known-count
-enum-known-count c = search rules
+enum_told-1 : tie.Need-enum_told-1
+enum_told-1 c = search rules
 
-enum_told : tie.Need-enum-told
-enum_told c = search rules
+shape_of-marks-in_default : tie.Need-shape_of-marks-in_default
+shape_of-marks-in_default c = (same₁ (finding c.before)).marks
 
-same_length : tie.Need-same-length
-same_length c = (same₁ (finding c.before.before)).marks
+shape_of-map-in_default : tie.Need-shape_of-map-in_default
+shape_of-map-in_default c = (same₁ (finding c.before)).map
 
-same-length-2 : tie.Need-same-length-2
-same-length-2 c = (same₁ (finding c.before.before)).map
+shape_of-faces-in_default : tie.Need-shape_of-faces-in_default
+shape_of-faces-in_default c = (same₁ (finding c.before)).faces
 
-same-length-3 : tie.Need-same-length-3
-same-length-3 c = (same₁ (finding c.before.before)).faces
+shape_of-table-in_default : tie.Need-shape_of-table-in_default
+shape_of-table-in_default c = (same₁ (finding c.before)).table
 
-same-length-4 : tie.Need-same-length-4
-same-length-4 c = (same₁ (finding c.before.before)).table
+returns-in_default : tie.Need-returns-in_default
+returns-in_default c = none (unfound c.requires c.find_tiles.ensures c.in_default.is)
 
-returns : tie.Need-returns
-returns c =
-    let f = finding c.before.before in
-    none (unfound (entry f).pre f.find-tiles.ensures c.enum_told.given.1)
+number_tiles-requires : tie.Need-number_tiles-requires
+number_tiles-requires c κs = numberable c.requires (tiles c.before.before.before.before) (roomy (entry (some-found c.before.before.before.before)) (same₁ (some-found c.before.before.before.before)))
 
-number-tiles-requires : tie.Need-number-tiles-requires
-number-tiles-requires c κs =
-    let k = c.before.before.before.before.before.before in
-    let f = some-found k in
-    numberable (entry f).pre (tiles k) (roomy (entry f) (same₁ f))
+enum_known-kept : tie.Need-enum_known-kept
+enum_known-kept c = search rules
 
-enum-known-kept : tie.Need-enum-known-kept
-enum-known-kept c = search rules
+enum_told-in_default-number_tiles : tie.Need-enum_told-in_default-number_tiles
+enum_told-in_default-number_tiles c = search rules
 
-enum-told-2 : tie.Need-enum-told-2
-enum-told-2 c = search rules
+shape_of-marks-in_default-number_tiles : tie.Need-shape_of-marks-in_default-number_tiles
+shape_of-marks-in_default-number_tiles c = (same₂ (numbering c.before)).marks
 
-same-length-5 : tie.Need-same-length-5
-same-length-5 c = (same₂ (numbering c.before.before)).marks
+shape_of-coarse-in_default-number_tiles : tie.Need-shape_of-coarse-in_default-number_tiles
+shape_of-coarse-in_default-number_tiles c = (same₂ (numbering c.before)).coarse
 
-same-length-6 : tie.Need-same-length-6
-same-length-6 c = (same₂ (numbering c.before.before)).coarse
+shape_of-numbers-in_default-number_tiles : tie.Need-shape_of-numbers-in_default-number_tiles
+shape_of-numbers-in_default-number_tiles c = (same₂ (numbering c.before)).numbers
 
-same-length-7 : tie.Need-same-length-7
-same-length-7 c = (same₂ (numbering c.before.before)).numbers
+shape_of-map-in_default-number_tiles : tie.Need-shape_of-map-in_default-number_tiles
+shape_of-map-in_default-number_tiles c = (same₂ (numbering c.before)).map
 
-same-length-8 : tie.Need-same-length-8
-same-length-8 c = (same₂ (numbering c.before.before)).map
+shape_of-faces-in_default-number_tiles : tie.Need-shape_of-faces-in_default-number_tiles
+shape_of-faces-in_default-number_tiles c = (same₂ (numbering c.before)).faces
 
-same-length-9 : tie.Need-same-length-9
-same-length-9 c = (same₂ (numbering c.before.before)).faces
+shape_of-table-in_default-number_tiles : tie.Need-shape_of-table-in_default-number_tiles
+shape_of-table-in_default-number_tiles c = (same₂ (numbering c.before)).table
 
-same-length-10 : tie.Need-same-length-10
-same-length-10 c = (same₂ (numbering c.before.before)).table
+returns-in_default-number_tiles : tie.Need-returns-in_default-number_tiles
+returns-in_default-number_tiles c = none (uncounted c.requires (tiles (told₂ (numbering c.before))) c.number_tiles.ensures c.in_default-number_tiles.is)
 
-returns-2 : tie.Need-returns-2
-returns-2 c =
-    let g = numbering c.before.before in
-    none (uncounted (entry₂ g).pre (tiles (told₂ g)) g.number-tiles.ensures c.enum-told2.given.1)
+map_vertices-requires : tie.Need-map_vertices-requires
+map_vertices-requires c κs = mappable c.requires (tiles (told₂ (all-numbered c.before.before))) (roomy (entry₂ (all-numbered c.before.before)) (same₂ (all-numbered c.before.before)))
 
-map-vertices-requires : tie.Need-map-vertices-requires
-map-vertices-requires c κs =
-    let g = all-numbered c.before.before.before.before.before.before in
-    mappable (entry₂ g).pre (tiles (told₂ g)) (roomy (entry₂ g) (same₂ g))
+shape_of-marks-then-not-map_vertices : tie.Need-shape_of-marks-then-not-map_vertices
+shape_of-marks-then-not-map_vertices c = (same₃ (mapping c.before)).marks
 
-same-length-11 : tie.Need-same-length-11
-same-length-11 c = (same₃ (mapping c.before)).marks
+shape_of-coarse-then-not-map_vertices : tie.Need-shape_of-coarse-then-not-map_vertices
+shape_of-coarse-then-not-map_vertices c = (same₃ (mapping c.before)).coarse
 
-same-length-12 : tie.Need-same-length-12
-same-length-12 c = (same₃ (mapping c.before)).coarse
+shape_of-numbers-then-not-map_vertices : tie.Need-shape_of-numbers-then-not-map_vertices
+shape_of-numbers-then-not-map_vertices c = (same₃ (mapping c.before)).numbers
 
-same-length-13 : tie.Need-same-length-13
-same-length-13 c = (same₃ (mapping c.before)).numbers
+shape_of-map-then-not-map_vertices : tie.Need-shape_of-map-then-not-map_vertices
+shape_of-map-then-not-map_vertices c = (same₃ (mapping c.before)).map
 
-same-length-14 : tie.Need-same-length-14
-same-length-14 c = (same₃ (mapping c.before)).map
+shape_of-faces-then-not-map_vertices : tie.Need-shape_of-faces-then-not-map_vertices
+shape_of-faces-then-not-map_vertices c = (same₃ (mapping c.before)).faces
 
-same-length-15 : tie.Need-same-length-15
-same-length-15 c = (same₃ (mapping c.before)).faces
+shape_of-table-then-not-map_vertices : tie.Need-shape_of-table-then-not-map_vertices
+shape_of-table-then-not-map_vertices c = (same₃ (mapping c.before)).table
 
-same-length-16 : tie.Need-same-length-16
-same-length-16 c = (same₃ (mapping c.before)).table
+returns-then-not-map_vertices : tie.Need-returns-then-not-map_vertices
+returns-then-not-map_vertices c = none
+    (unmapped c.requires (tiles (told₂ (numbering₃ (mapping c.before)))) c.number_tiles.ensures c.map_vertices.ensures
+    c.if-not-map_vertices.true)
 
-returns-3 : tie.Need-returns-3
-returns-3 c =
-    let v = mapping c.before in
-    let g = numbering₃ v in
-    none
-    (unmapped (entry₃ v).pre (tiles (told₂ g)) g.number-tiles.ensures v.map-vertices.ensures
-    (not-true _ c.if1.true))
+map_triangles-requires : tie.Need-map_triangles-requires
+map_triangles-requires c κs = claimable c.requires (tiles (told₂ (numbering₃ (mapping c.before.before.before)))) (roomy (entry₃ (mapping c.before.before.before)) {b = buffers₃ (mapping c.before.before.before)} (same₃ (mapping c.before.before.before)))
 
-map-triangles-requires : tie.Need-map-triangles-requires
-map-triangles-requires c κs =
-    let v = mapping c.before.before.before.before in
-    claimable (entry₃ v).pre (tiles (told₂ (numbering₃ v))) (roomy (entry₃ v) {b = buffers₃ v} (same₃ v))
+shape_of-marks-then-not-map_triangles : tie.Need-shape_of-marks-then-not-map_triangles
+shape_of-marks-then-not-map_triangles c = (same₄ (matching c.before)).marks
 
-same-length-17 : tie.Need-same-length-17
-same-length-17 c = (same₄ (matching c.before)).marks
+shape_of-coarse-then-not-map_triangles : tie.Need-shape_of-coarse-then-not-map_triangles
+shape_of-coarse-then-not-map_triangles c = (same₄ (matching c.before)).coarse
 
-same-length-18 : tie.Need-same-length-18
-same-length-18 c = (same₄ (matching c.before)).coarse
+shape_of-numbers-then-not-map_triangles : tie.Need-shape_of-numbers-then-not-map_triangles
+shape_of-numbers-then-not-map_triangles c = (same₄ (matching c.before)).numbers
 
-same-length-19 : tie.Need-same-length-19
-same-length-19 c = (same₄ (matching c.before)).numbers
+shape_of-map-then-not-map_triangles : tie.Need-shape_of-map-then-not-map_triangles
+shape_of-map-then-not-map_triangles c = (same₄ (matching c.before)).map
 
-same-length-20 : tie.Need-same-length-20
-same-length-20 c = (same₄ (matching c.before)).map
+shape_of-faces-then-not-map_triangles : tie.Need-shape_of-faces-then-not-map_triangles
+shape_of-faces-then-not-map_triangles c = (same₄ (matching c.before)).faces
 
-same-length-21 : tie.Need-same-length-21
-same-length-21 c = (same₄ (matching c.before)).faces
+shape_of-table-then-not-map_triangles : tie.Need-shape_of-table-then-not-map_triangles
+shape_of-table-then-not-map_triangles c = (same₄ (matching c.before)).table
 
-same-length-22 : tie.Need-same-length-22
-same-length-22 c = (same₄ (matching c.before)).table
+returns-then-not-map_triangles : tie.Need-returns-then-not-map_triangles
+returns-then-not-map_triangles c = none
+    (unmatched c.requires (tiles (told₂ (numbering₃ (mapping₄ (matching c.before))))) c.number_tiles.ensures c.map_vertices.ensures
+    c.map_triangles.ensures c.if-not-map_triangles.true)
 
-returns-4 : tie.Need-returns-4
-returns-4 c =
-    let t = matching c.before in
-    let v = mapping₄ t in
-    let g = numbering₃ v in
-    none
-    (unmatched (entry₄ t).pre (tiles (told₂ g)) g.number-tiles.ensures v.map-vertices.ensures
-    t.map-triangles.ensures (not-true _ c.if2.true))
+compare_all-compared-requires : tie.Need-compare_all-compared-requires
+compare_all-compared-requires c κs = comparable c.requires (tiles (told₂ (numbering₃ (mapping₄ (matching c.before.before))))) c.number_tiles.ensures c.map_vertices.ensures
+    c.map_triangles.ensures (roomy (entry₄ (matching c.before.before)) (same₄ (matching c.before.before))) c.if-not-map_triangles.false
 
-compare-all-requires : tie.Need-compare-all-requires
-compare-all-requires c κs =
-    let e = c.before.before.before.before.before in
-    let t = matching e.before in
-    let v = mapping₄ t in
-    let g = numbering₃ v in
-    comparable (entry₄ t).pre (tiles (told₂ g)) g.number-tiles.ensures v.map-vertices.ensures
-    t.map-triangles.ensures (roomy (entry₄ t) (same₄ t)) (not-false _ e.if2.false)
+enum_told-in-Agree : tie.Need-enum_told-in-Agree
+enum_told-in-Agree c = search rules
 
-enum-told-3 : tie.Need-enum-told-3
-enum-told-3 c = search rules
+enum_known-compared : tie.Need-enum_known-compared
+enum_known-compared c = search rules
 
-enum-known-compared : tie.Need-enum-known-compared
-enum-known-compared c = search rules
+enum_told-in-Differ : tie.Need-enum_told-in-Differ
+enum_told-in-Differ c = search rules
 
-enum-told-4 : tie.Need-enum-told-4
-enum-told-4 c = search rules
+shape_of-marks-in-Agree : tie.Need-shape_of-marks-in-Agree
+shape_of-marks-in-Agree c = (same₅ (comparing c.before)).marks
 
-same-length-23 : tie.Need-same-length-23
-same-length-23 c = (same₅ (comparing c.before.before)).marks
+shape_of-coarse-in-Agree : tie.Need-shape_of-coarse-in-Agree
+shape_of-coarse-in-Agree c = (same₅ (comparing c.before)).coarse
 
-same-length-24 : tie.Need-same-length-24
-same-length-24 c = (same₅ (comparing c.before.before)).coarse
+shape_of-numbers-in-Agree : tie.Need-shape_of-numbers-in-Agree
+shape_of-numbers-in-Agree c = (same₅ (comparing c.before)).numbers
 
-same-length-25 : tie.Need-same-length-25
-same-length-25 c = (same₅ (comparing c.before.before)).numbers
+shape_of-map-in-Agree : tie.Need-shape_of-map-in-Agree
+shape_of-map-in-Agree c = (same₅ (comparing c.before)).map
 
-same-length-26 : tie.Need-same-length-26
-same-length-26 c = (same₅ (comparing c.before.before)).map
+shape_of-faces-in-Agree : tie.Need-shape_of-faces-in-Agree
+shape_of-faces-in-Agree c = (same₅ (comparing c.before)).faces
 
-same-length-27 : tie.Need-same-length-27
-same-length-27 c = (same₅ (comparing c.before.before)).faces
+shape_of-table-in-Agree : tie.Need-shape_of-table-in-Agree
+shape_of-table-in-Agree c = (same₅ (comparing c.before)).table
 
-same-length-28 : tie.Need-same-length-28
-same-length-28 c = (same₅ (comparing c.before.before)).table
+returns-in-Agree : tie.Need-returns-in-Agree
+returns-in-Agree c = found
+    (read c.requires (tiles (told₂ (numbering₃ (mapping₄ (matching₅ (comparing c.before)))))) c.number_tiles.ensures c.map_vertices.ensures
+    c.map_triangles.ensures c.compare_all-compared.ensures c.in-Holds-number_tiles.is
+    c.if-not-map_vertices.false c.if-not-map_triangles.false
+    (roomy (entry₅ (comparing c.before)) {b = buffers₄ (matching₅ (comparing c.before))} (same₄ (matching₅ (comparing c.before)))) c.in-Agree.is)
 
-returns-5 : tie.Need-returns-5
-returns-5 c =
-    let a = comparing c.before.before in
-    let t = matching₅ a in
-    let v = mapping₄ t in
-    let g = numbering₃ v in
-    found
-    (read (entry₅ a).pre (tiles (told₂ g)) g.number-tiles.ensures v.map-vertices.ensures
-    t.map-triangles.ensures a.compare-all.ensures (told₃ v).before.kept.given.1
-    (not-false _ (mapped t).if1.left) (not-false _ (matched a).if2.left)
-    (roomy (entry₅ a) {b = buffers₄ t} (same₄ t)) c.enum-told3.given.1)
+shape_of-marks-in-InsideOut : tie.Need-shape_of-marks-in-InsideOut
+shape_of-marks-in-InsideOut c = (same₅ (comparing c.before)).marks
 
-same-length-29 : tie.Need-same-length-29
-same-length-29 c = (same₅ (comparing c.before.before.before)).marks
+shape_of-coarse-in-InsideOut : tie.Need-shape_of-coarse-in-InsideOut
+shape_of-coarse-in-InsideOut c = (same₅ (comparing c.before)).coarse
 
-same-length-30 : tie.Need-same-length-30
-same-length-30 c = (same₅ (comparing c.before.before.before)).coarse
+shape_of-numbers-in-InsideOut : tie.Need-shape_of-numbers-in-InsideOut
+shape_of-numbers-in-InsideOut c = (same₅ (comparing c.before)).numbers
 
-same-length-31 : tie.Need-same-length-31
-same-length-31 c = (same₅ (comparing c.before.before.before)).numbers
+shape_of-map-in-InsideOut : tie.Need-shape_of-map-in-InsideOut
+shape_of-map-in-InsideOut c = (same₅ (comparing c.before)).map
 
-same-length-32 : tie.Need-same-length-32
-same-length-32 c = (same₅ (comparing c.before.before.before)).map
+shape_of-faces-in-InsideOut : tie.Need-shape_of-faces-in-InsideOut
+shape_of-faces-in-InsideOut c = (same₅ (comparing c.before)).faces
 
-same-length-33 : tie.Need-same-length-33
-same-length-33 c = (same₅ (comparing c.before.before.before)).faces
+shape_of-table-in-InsideOut : tie.Need-shape_of-table-in-InsideOut
+shape_of-table-in-InsideOut c = (same₅ (comparing c.before)).table
 
-same-length-34 : tie.Need-same-length-34
-same-length-34 c = (same₅ (comparing c.before.before.before)).table
+returns-in-InsideOut : tie.Need-returns-in-InsideOut
+returns-in-InsideOut c = inside_out
+    (read-inside-out c.requires (tiles (told₂ (numbering₃ (mapping₄ (matching₅ (comparing c.before)))))) c.number_tiles.ensures c.map_vertices.ensures
+    c.map_triangles.ensures c.compare_all-compared.ensures c.in-Holds-number_tiles.is
+    c.if-not-map_vertices.false c.if-not-map_triangles.false
+    (roomy (entry₅ (comparing c.before)) {b = buffers₄ (matching₅ (comparing c.before))} (same₄ (matching₅ (comparing c.before)))) c.in-InsideOut.is)
 
-returns-6 : tie.Need-returns-6
-returns-6 c =
-    let a = comparing c.before.before.before in
-    let t = matching₅ a in
-    let v = mapping₄ t in
-    let g = numbering₃ v in
-    inside_out
-    (read-inside-out (entry₅ a).pre (tiles (told₂ g)) g.number-tiles.ensures v.map-vertices.ensures
-    t.map-triangles.ensures a.compare-all.ensures (told₃ v).before.kept.given.1
-    (not-false _ (mapped t).if1.left) (not-false _ (matched a).if2.left)
-    (roomy (entry₅ a) {b = buffers₄ t} (same₄ t)) c.before.compared.given.1)
+shape_of-marks-in-Differ : tie.Need-shape_of-marks-in-Differ
+shape_of-marks-in-Differ c = (same₅ (comparing c.before)).marks
 
-same-length-35 : tie.Need-same-length-35
-same-length-35 c = (same₅ (comparing c.before.before)).marks
+shape_of-coarse-in-Differ : tie.Need-shape_of-coarse-in-Differ
+shape_of-coarse-in-Differ c = (same₅ (comparing c.before)).coarse
 
-same-length-36 : tie.Need-same-length-36
-same-length-36 c = (same₅ (comparing c.before.before)).coarse
+shape_of-numbers-in-Differ : tie.Need-shape_of-numbers-in-Differ
+shape_of-numbers-in-Differ c = (same₅ (comparing c.before)).numbers
 
-same-length-37 : tie.Need-same-length-37
-same-length-37 c = (same₅ (comparing c.before.before)).numbers
+shape_of-map-in-Differ : tie.Need-shape_of-map-in-Differ
+shape_of-map-in-Differ c = (same₅ (comparing c.before)).map
 
-same-length-38 : tie.Need-same-length-38
-same-length-38 c = (same₅ (comparing c.before.before)).map
+shape_of-faces-in-Differ : tie.Need-shape_of-faces-in-Differ
+shape_of-faces-in-Differ c = (same₅ (comparing c.before)).faces
 
-same-length-39 : tie.Need-same-length-39
-same-length-39 c = (same₅ (comparing c.before.before)).faces
+shape_of-table-in-Differ : tie.Need-shape_of-table-in-Differ
+shape_of-table-in-Differ c = (same₅ (comparing c.before)).table
 
-same-length-40 : tie.Need-same-length-40
-same-length-40 c = (same₅ (comparing c.before.before)).table
+returns-in-Differ : tie.Need-returns-in-Differ
+returns-in-Differ c = none
+    (unlike c.requires (tiles (told₂ (numbering₃ (mapping₄ (matching₅ (comparing c.before)))))) c.number_tiles.ensures c.map_vertices.ensures
+    c.map_triangles.ensures c.compare_all-compared.ensures c.in-Differ.is)
 
-returns-7 : tie.Need-returns-7
-returns-7 c =
-    let a = comparing c.before.before in
-    let t = matching₅ a in
-    let v = mapping₄ t in
-    let g = numbering₃ v in
-    none
-    (unlike (entry₅ a).pre (tiles (told₂ g)) g.number-tiles.ensures v.map-vertices.ensures
-    t.map-triangles.ensures a.compare-all.ensures c.enum-told4.given.1)
-
-pub try-role-spec : {M : Type 1} → statement M
-try-role-spec =
+pub try_role_spec : {M : Type 1} → statement M
+try_role_spec =
     tie.close
     (tie.spec
-    find-tiles-requires
-    enum-known-count
-    enum_told
-    same_length
-    same-length-2
-    same-length-3
-    same-length-4
-    returns
-    number-tiles-requires
-    enum-known-kept
-    enum-told-2
-    same-length-5
-    same-length-6
-    same-length-7
-    same-length-8
-    same-length-9
-    same-length-10
-    returns-2
-    map-vertices-requires
-    same-length-11
-    same-length-12
-    same-length-13
-    same-length-14
-    same-length-15
-    same-length-16
-    returns-3
-    map-triangles-requires
-    same-length-17
-    same-length-18
-    same-length-19
-    same-length-20
-    same-length-21
-    same-length-22
-    returns-4
-    compare-all-requires
-    enum-told-3
-    enum-known-compared
-    enum-told-4
-    same-length-23
-    same-length-24
-    same-length-25
-    same-length-26
-    same-length-27
-    same-length-28
-    returns-5
-    same-length-29
-    same-length-30
-    same-length-31
-    same-length-32
-    same-length-33
-    same-length-34
-    returns-6
-    same-length-35
-    same-length-36
-    same-length-37
-    same-length-38
-    same-length-39
-    same-length-40
-    returns-7)
+    find_tiles-requires
+    enum_known-count
+    enum_told-1
+    shape_of-marks-in_default
+    shape_of-map-in_default
+    shape_of-faces-in_default
+    shape_of-table-in_default
+    returns-in_default
+    number_tiles-requires
+    enum_known-kept
+    enum_told-in_default-number_tiles
+    shape_of-marks-in_default-number_tiles
+    shape_of-coarse-in_default-number_tiles
+    shape_of-numbers-in_default-number_tiles
+    shape_of-map-in_default-number_tiles
+    shape_of-faces-in_default-number_tiles
+    shape_of-table-in_default-number_tiles
+    returns-in_default-number_tiles
+    map_vertices-requires
+    shape_of-marks-then-not-map_vertices
+    shape_of-coarse-then-not-map_vertices
+    shape_of-numbers-then-not-map_vertices
+    shape_of-map-then-not-map_vertices
+    shape_of-faces-then-not-map_vertices
+    shape_of-table-then-not-map_vertices
+    returns-then-not-map_vertices
+    map_triangles-requires
+    shape_of-marks-then-not-map_triangles
+    shape_of-coarse-then-not-map_triangles
+    shape_of-numbers-then-not-map_triangles
+    shape_of-map-then-not-map_triangles
+    shape_of-faces-then-not-map_triangles
+    shape_of-table-then-not-map_triangles
+    returns-then-not-map_triangles
+    compare_all-compared-requires
+    enum_told-in-Agree
+    enum_known-compared
+    enum_told-in-Differ
+    shape_of-marks-in-Agree
+    shape_of-coarse-in-Agree
+    shape_of-numbers-in-Agree
+    shape_of-map-in-Agree
+    shape_of-faces-in-Agree
+    shape_of-table-in-Agree
+    returns-in-Agree
+    shape_of-marks-in-InsideOut
+    shape_of-coarse-in-InsideOut
+    shape_of-numbers-in-InsideOut
+    shape_of-map-in-InsideOut
+    shape_of-faces-in-InsideOut
+    shape_of-table-in-InsideOut
+    returns-in-InsideOut
+    shape_of-marks-in-Differ
+    shape_of-coarse-in-Differ
+    shape_of-numbers-in-Differ
+    shape_of-map-in-Differ
+    shape_of-faces-in-Differ
+    shape_of-table-in-Differ
+    returns-in-Differ)

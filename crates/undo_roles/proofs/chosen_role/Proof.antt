@@ -7,99 +7,88 @@ use Rattle.undo_roles.proofs.chosen_role.Tie as tie
 -- ---- from each place to the call and to the test
 
 -- the call of `least_role`
-abbrev all : tie.After-slice-known12 → tie.After-least-role
-all c =
-    c.before.before.before.before.before.before.before.before.before.before.before.before
+abbrev all : tie.After-slice_known-then-asked-eq-ANY_ROLE-6-1 → tie.After-least_role
+all c = c.before.before.before.before.before.before.before.before.before.before.before.before
 
 -- the call of `try_role`
-abbrev trying : tie.After-slice-known18 → tie.After-try-role
-trying c =
-    c.before.before.before.before.before.before.before.before.before.before.before.before
+abbrev trying : tie.After-slice_known-12-1 → tie.After-try_role
+trying c = c.before.before.before.before.before.before.before.before.before.before.before.before
 
 -- the test of the number asked
-abbrev other : tie.After-try-role-arg6 → tie.Else1
+abbrev other : tie.After-try_role-arg-6-1 → tie.Else-asked-eq-ANY_ROLE
 other c = c.before.before.before.before.before.before
 
 -- the function's start
-abbrev entry : tie.Else1 → tie.Start
+abbrev entry : tie.Else-asked-eq-ANY_ROLE → tie.Start
 entry c = c.before.before.before.before.before.before.before.before.before.before.before
 
 -- ---- the answers
+least_role-requires : tie.Need-least_role-requires
+least_role-requires c κs = c.requires.lent
 
-least-role-requires : tie.Need-least-role-requires
-least-role-requires c κs =
-    let s = c.before.before.before.before.before.before.before.before.before.before.before.before.before.before.before.before.before in
-    s.pre.lent
+shape_of-marks-then-asked-eq-ANY_ROLE : tie.Need-shape_of-marks-then-asked-eq-ANY_ROLE
+shape_of-marks-then-asked-eq-ANY_ROLE c = c.least_role.auto.marks
 
-same_length : tie.Need-same-length
-same_length c = (all c).least-role.auto.1.1.1.1.1.1.0
+shape_of-coarse-then-asked-eq-ANY_ROLE : tie.Need-shape_of-coarse-then-asked-eq-ANY_ROLE
+shape_of-coarse-then-asked-eq-ANY_ROLE c = c.least_role.auto.coarse
 
-same-length-2 : tie.Need-same-length-2
-same-length-2 c = (all c).least-role.auto.1.1.1.1.1.1.1.0
+shape_of-numbers-then-asked-eq-ANY_ROLE : tie.Need-shape_of-numbers-then-asked-eq-ANY_ROLE
+shape_of-numbers-then-asked-eq-ANY_ROLE c = c.least_role.auto.numbers
 
-same-length-3 : tie.Need-same-length-3
-same-length-3 c = (all c).least-role.auto.1.1.1.1.1.1.1.1.0
+shape_of-map-then-asked-eq-ANY_ROLE : tie.Need-shape_of-map-then-asked-eq-ANY_ROLE
+shape_of-map-then-asked-eq-ANY_ROLE c = c.least_role.auto.map
 
-same-length-4 : tie.Need-same-length-4
-same-length-4 c = (all c).least-role.auto.1.1.1.1.1.1.1.1.1.0
+shape_of-faces-then-asked-eq-ANY_ROLE : tie.Need-shape_of-faces-then-asked-eq-ANY_ROLE
+shape_of-faces-then-asked-eq-ANY_ROLE c = c.least_role.auto.faces
 
-same-length-5 : tie.Need-same-length-5
-same-length-5 c = (all c).least-role.auto.1.1.1.1.1.1.1.1.1.1.0
+shape_of-table-then-asked-eq-ANY_ROLE : tie.Need-shape_of-table-then-asked-eq-ANY_ROLE
+shape_of-table-then-asked-eq-ANY_ROLE c = c.least_role.auto.table
 
-same-length-6 : tie.Need-same-length-6
-same-length-6 c = (all c).least-role.auto.1.1.1.1.1.1.1.1.1.1.1.0
+returns-then-asked-eq-ANY_ROLE : tie.Need-returns-then-asked-eq-ANY_ROLE
+returns-then-asked-eq-ANY_ROLE c =
+    asked-least c.requires.lent.mesh.proper c.if-asked-eq-ANY_ROLE.true c.least_role.ensures
+
+try_role-requires : tie.Need-try_role-requires
+try_role-requires c κs = asked-triable c.requires c.if-asked-eq-ANY_ROLE.false
+
+shape_of-marks : tie.Need-shape_of-marks
+shape_of-marks c = c.try_role.auto.marks
+
+shape_of-coarse : tie.Need-shape_of-coarse
+shape_of-coarse c = c.try_role.auto.coarse
+
+shape_of-numbers : tie.Need-shape_of-numbers
+shape_of-numbers c = c.try_role.auto.numbers
+
+shape_of-map : tie.Need-shape_of-map
+shape_of-map c = c.try_role.auto.map
+
+shape_of-faces : tie.Need-shape_of-faces
+shape_of-faces c = c.try_role.auto.faces
+
+shape_of-table : tie.Need-shape_of-table
+shape_of-table c = c.try_role.auto.table
 
 returns : tie.Need-returns
-returns c =
-    let l = all c in
-    let asked = l.before.before.before.before.before.before.before in
-    let s = asked.before.before.before.before.before.before.before.before.before.before.before in
-    asked-least s.pre.lent.mesh.proper asked.if1.taken l.least-role.ensures
+returns c = asked-tried (asked-triable c.requires c.if-asked-eq-ANY_ROLE.false) c.try_role.ensures
 
-try-role-requires : tie.Need-try-role-requires
-try-role-requires c κs = asked-triable (entry (other c)).requires (other c).if1.false
-
-same-length-7 : tie.Need-same-length-7
-same-length-7 c = (trying c).try-role.auto.1.1.1.1.1.1.1.0
-
-same-length-8 : tie.Need-same-length-8
-same-length-8 c = (trying c).try-role.auto.1.1.1.1.1.1.1.1.0
-
-same-length-9 : tie.Need-same-length-9
-same-length-9 c = (trying c).try-role.auto.1.1.1.1.1.1.1.1.1.0
-
-same-length-10 : tie.Need-same-length-10
-same-length-10 c = (trying c).try-role.auto.1.1.1.1.1.1.1.1.1.1.0
-
-same-length-11 : tie.Need-same-length-11
-same-length-11 c = (trying c).try-role.auto.1.1.1.1.1.1.1.1.1.1.1.0
-
-same-length-12 : tie.Need-same-length-12
-same-length-12 c = (trying c).try-role.auto.1.1.1.1.1.1.1.1.1.1.1.1.0
-
-returns-2 : tie.Need-returns-2
-returns-2 c =
-    let t = trying c in
-    let o = other t.before in
-    asked-tried (asked-triable (entry o).pre o.if1.left) t.try-role.ensures
-
-pub chosen-role-spec : {M : Type 1} → statement M
-chosen-role-spec =
+pub chosen_role_spec : {M : Type 1} → statement M
+chosen_role_spec =
     tie.close
     (tie.spec
-    least-role-requires
-    same_length
-    same-length-2
-    same-length-3
-    same-length-4
-    same-length-5
-    same-length-6
-    returns
-    try-role-requires
-    same-length-7
-    same-length-8
-    same-length-9
-    same-length-10
-    same-length-11
-    same-length-12
-    returns-2)
+    least_role-requires
+    shape_of-marks-then-asked-eq-ANY_ROLE
+    shape_of-coarse-then-asked-eq-ANY_ROLE
+    shape_of-numbers-then-asked-eq-ANY_ROLE
+    shape_of-map-then-asked-eq-ANY_ROLE
+    shape_of-faces-then-asked-eq-ANY_ROLE
+    shape_of-table-then-asked-eq-ANY_ROLE
+    returns-then-asked-eq-ANY_ROLE
+    try_role-requires
+    shape_of-marks
+    shape_of-coarse
+    shape_of-numbers
+    shape_of-map
+    shape_of-faces
+    shape_of-table
+    returns)

@@ -11,165 +11,142 @@ use Rattle.undo_roles.proofs.Least.{Turn, begun, triable, turned, first-least, n
 use Rattle.undo_roles.proofs.least_role.Statement.{statement}
 use Rattle.undo_roles.proofs.least_role.Tie as tie
 
-abbrev invariant-loop : tie.invariant-loop
-invariant-loop vertices triangles list other rows ring marks₀ coarse₀ numbers₀ map₀ faces₀ table₀ remembered₀ role₀ marks
+abbrev invariant-loop-role : tie.invariant-loop-role
+invariant-loop-role vertices triangles list other rows ring marks₀ coarse₀ numbers₀ map₀ faces₀ table₀ remembered₀ role₀ marks
     coarse numbers map faces table remembered role =
     Turn vertices triangles list (buffers other rows ring marks₀ coarse₀ numbers₀ map₀ faces₀ table₀)
     (buffers other rows ring marks coarse numbers map faces table) remembered role
 
-abbrev decreases-loop : tie.decreases-loop
-decreases-loop vertices triangles list other rows ring marks₀ coarse₀ numbers₀ map₀ faces₀ table₀ remembered₀ role₀ marks
+abbrev decreases-loop-role : tie.decreases-loop-role
+decreases-loop-role vertices triangles list other rows ring marks₀ coarse₀ numbers₀ map₀ faces₀ table₀ remembered₀ role₀ marks
     coarse numbers map faces table remembered role =
     4 - role
 
 -- ---- from each place to the call and to the turn
 
 -- the call of `try_role`
-abbrev trying : tie.After-slice-known12 invariant-loop decreases-loop → tie.After-try-role invariant-loop decreases-loop
+abbrev trying : tie.After-slice_known-in-loop-role-6-1 invariant-loop-role decreases-loop-role → tie.After-try_role-tried invariant-loop-role decreases-loop-role
 trying c = c.before.before.before.before.before.before.before.before.before.before.before.before
 
 -- the turn that makes it
-abbrev turn : tie.After-try-role invariant-loop decreases-loop → tie.In-loop invariant-loop decreases-loop
+abbrev turn : tie.After-try_role-tried invariant-loop-role decreases-loop-role → tie.In-loop-role invariant-loop-role decreases-loop-role
 turn t = t.before.before.before.before.before.before.before
 
 -- the function's start
-abbrev entry : tie.In-loop invariant-loop decreases-loop → tie.Start invariant-loop decreases-loop
+abbrev entry : tie.In-loop-role invariant-loop-role decreases-loop-role → tie.Start invariant-loop-role decreases-loop-role
 entry c = c.before.before.before.before.before.before.before.before.before.before.before.before
 
 -- the call keeps the lengths of the buffers
-call_kept : (t : tie.After-try-role invariant-loop decreases-loop)
-    → let s = (entry (turn t)).args in
-    let l = (turn t).before.loop in
-    let u = t.try-role.new.1.1.1.1.1.1.1 in
+call_kept : (t : tie.After-try_role-tried invariant-loop-role decreases-loop-role)
+    → let s = t.args in
+    let l = t.loop-role in
     SameLengths
     (buffers s.other.now s.rows.now s.ring.now l.marks l.coarse l.numbers l.map l.faces
     l.table)
-    (buffers s.other.now s.rows.now s.ring.now u.0 u.1.0 u.1.1.0 u.1.1.1.0
-    u.1.1.1.1.0 u.1.1.1.1.1.0)
+    (buffers s.other.now s.rows.now s.ring.now t.try_role-tried.new.marks t.try_role-tried.new.coarse t.try_role-tried.new.numbers t.try_role-tried.new.map
+    t.try_role-tried.new.faces t.try_role-tried.new.table)
 call_kept t =
-    let k = t.try-role.auto.1.1.1.1.1.1.1 in
     record {
       other = refl;
       rows = refl;
       ring = refl;
-      marks = k.0;
-      coarse = k.1.0;
-      numbers = k.1.1.0;
-      map = k.1.1.1.0;
-      faces = k.1.1.1.1.0;
-      table = k.1.1.1.1.1.0;
+      marks = t.try_role-tried.auto.marks;
+      coarse = t.try_role-tried.auto.coarse;
+      numbers = t.try_role-tried.auto.numbers;
+      map = t.try_role-tried.auto.map;
+      faces = t.try_role-tried.auto.faces;
+      table = t.try_role-tried.auto.table;
     }
 
 -- ---- the answers
+loop-role-init : tie.Need-loop-role-init invariant-loop-role decreases-loop-role
+loop-role-init c = begun c.requires
 
-loop-holds : tie.Need-loop-init invariant-loop decreases-loop
-loop-holds c =
-    let s = c.before.before.before.before.before.before.before.before.before.before in
-    begun s.requires
+try_role-tried-requires : tie.Need-try_role-tried-requires invariant-loop-role decreases-loop-role
+try_role-tried-requires c κs = triable c.loop-role.invariant c.loop-role-test.true
 
-try-role-requires : tie.Need-try-role-requires invariant-loop decreases-loop
-try-role-requires c κs =
-    let t = c.before.before.before.before.before.before in
-    triable t.before.loop.invariant t.loop-test.true
+enum_told-1 : tie.Need-enum_told-1 invariant-loop-role decreases-loop-role
+enum_told-1 c = search rules
 
-enum_told : tie.Need-enum-told invariant-loop decreases-loop
-enum_told c = search rules
+shape_of-marks-in-Reading : tie.Need-shape_of-marks-in-Reading invariant-loop-role decreases-loop-role
+shape_of-marks-in-Reading c = (kept_on c.loop-role.invariant.lengths (call_kept (trying c.before))).marks
 
-same_length : tie.Need-same-length invariant-loop decreases-loop
-same_length c =
-    let t = trying c.before.before in
-    (kept_on (turn t).before.loop.inv.lengths (call_kept t)).marks
+shape_of-coarse-in-Reading : tie.Need-shape_of-coarse-in-Reading invariant-loop-role decreases-loop-role
+shape_of-coarse-in-Reading c = (kept_on c.loop-role.invariant.lengths (call_kept (trying c.before))).coarse
 
-same-length-2 : tie.Need-same-length-2 invariant-loop decreases-loop
-same-length-2 c =
-    let t = trying c.before.before in
-    (kept_on (turn t).before.loop.inv.lengths (call_kept t)).coarse
+shape_of-numbers-in-Reading : tie.Need-shape_of-numbers-in-Reading invariant-loop-role decreases-loop-role
+shape_of-numbers-in-Reading c = (kept_on c.loop-role.invariant.lengths (call_kept (trying c.before))).numbers
 
-same-length-3 : tie.Need-same-length-3 invariant-loop decreases-loop
-same-length-3 c =
-    let t = trying c.before.before in
-    (kept_on (turn t).before.loop.inv.lengths (call_kept t)).numbers
+shape_of-map-in-Reading : tie.Need-shape_of-map-in-Reading invariant-loop-role decreases-loop-role
+shape_of-map-in-Reading c = (kept_on c.loop-role.invariant.lengths (call_kept (trying c.before))).map
 
-same-length-4 : tie.Need-same-length-4 invariant-loop decreases-loop
-same-length-4 c =
-    let t = trying c.before.before in
-    (kept_on (turn t).before.loop.inv.lengths (call_kept t)).map
+shape_of-faces-in-Reading : tie.Need-shape_of-faces-in-Reading invariant-loop-role decreases-loop-role
+shape_of-faces-in-Reading c = (kept_on c.loop-role.invariant.lengths (call_kept (trying c.before))).faces
 
-same-length-5 : tie.Need-same-length-5 invariant-loop decreases-loop
-same-length-5 c =
-    let t = trying c.before.before in
-    (kept_on (turn t).before.loop.inv.lengths (call_kept t)).faces
+shape_of-table-in-Reading : tie.Need-shape_of-table-in-Reading invariant-loop-role decreases-loop-role
+shape_of-table-in-Reading c = (kept_on c.loop-role.invariant.lengths (call_kept (trying c.before))).table
 
-same-length-6 : tie.Need-same-length-6 invariant-loop decreases-loop
-same-length-6 c =
-    let t = trying c.before.before in
-    (kept_on (turn t).before.loop.inv.lengths (call_kept t)).table
+returns-in-Reading : tie.Need-returns-in-Reading invariant-loop-role decreases-loop-role
+returns-in-Reading c = first-least c.loop-role.invariant c.in-Reading.is c.try_role-tried.ensures
 
-returns : tie.Need-returns invariant-loop decreases-loop
-returns c =
-    let t = trying c.before.before in
-    first-least (turn t).before.loop.inv c.enum_told.given.1 t.try-role.ensures
+earlier-remembered-requires : tie.Need-earlier-remembered-requires invariant-loop-role decreases-loop-role
+earlier-remembered-requires c κs = search rules
 
-earlier-requires : tie.Need-earlier-requires invariant-loop decreases-loop
-earlier-requires c κs = search rules
+overflow_add-role : tie.Need-overflow_add-role invariant-loop-role decreases-loop-role
+overflow_add-role c = omega arith
 
-add-role : tie.Need-overflow-add-role invariant-loop decreases-loop
-add-role c = omega arith
+loop-role-smaller : tie.Need-loop-role-smaller invariant-loop-role decreases-loop-role
+loop-role-smaller c = omega arith
 
-loop-less : tie.Need-loop-smaller invariant-loop decreases-loop
-loop-less c = omega arith
+loop-role-preserved : tie.Need-loop-role-preserved invariant-loop-role decreases-loop-role
+loop-role-preserved c = turned c.loop-role.invariant c.loop-role-test.true (call_kept (trying c.before.before)) c.try_role-tried.ensures
+    c.in_default.in_default-own.keys2 c.earlier-remembered.ensures
 
-loop-again : tie.Need-loop-preserved invariant-loop decreases-loop
-loop-again c =
-    let t = trying c.before.before in
-    turned (turn t).before.loop.inv (turn t).loop-test.taken (call_kept t) t.try-role.ensures
-    c.before.match.keys2 c.earlier.ensures
+shape_of-marks : tie.Need-shape_of-marks invariant-loop-role decreases-loop-role
+shape_of-marks c = c.loop-role.invariant.lengths.marks
 
-same-length-7 : tie.Need-same-length-7 invariant-loop decreases-loop
-same-length-7 c = c.before.loop.invariant.lengths.marks
+shape_of-coarse : tie.Need-shape_of-coarse invariant-loop-role decreases-loop-role
+shape_of-coarse c = c.loop-role.invariant.lengths.coarse
 
-same-length-8 : tie.Need-same-length-8 invariant-loop decreases-loop
-same-length-8 c = c.before.loop.invariant.lengths.coarse
+shape_of-numbers : tie.Need-shape_of-numbers invariant-loop-role decreases-loop-role
+shape_of-numbers c = c.loop-role.invariant.lengths.numbers
 
-same-length-9 : tie.Need-same-length-9 invariant-loop decreases-loop
-same-length-9 c = c.before.loop.invariant.lengths.numbers
+shape_of-map : tie.Need-shape_of-map invariant-loop-role decreases-loop-role
+shape_of-map c = c.loop-role.invariant.lengths.map
 
-same-length-10 : tie.Need-same-length-10 invariant-loop decreases-loop
-same-length-10 c = c.before.loop.invariant.lengths.map
+shape_of-faces : tie.Need-shape_of-faces invariant-loop-role decreases-loop-role
+shape_of-faces c = c.loop-role.invariant.lengths.faces
 
-same-length-11 : tie.Need-same-length-11 invariant-loop decreases-loop
-same-length-11 c = c.before.loop.invariant.lengths.faces
+shape_of-table : tie.Need-shape_of-table invariant-loop-role decreases-loop-role
+shape_of-table c = c.loop-role.invariant.lengths.table
 
-same-length-12 : tie.Need-same-length-12 invariant-loop decreases-loop
-same-length-12 c = c.before.loop.invariant.lengths.table
+returns : tie.Need-returns invariant-loop-role decreases-loop-role
+returns c = no-role c.loop-role.invariant c.loop-role-test.false
 
-returns-2 : tie.Need-returns-2 invariant-loop decreases-loop
-returns-2 c = no-role c.before.loop.invariant c.loop-test.false
-
-pub least-role-spec : {M : Type 1} → statement M
-least-role-spec =
+pub least_role_spec : {M : Type 1} → statement M
+least_role_spec =
     tie.close
     (tie.spec
-    invariant-loop
-    decreases-loop
-    loop-holds
-    try-role-requires
-    enum_told
-    same_length
-    same-length-2
-    same-length-3
-    same-length-4
-    same-length-5
-    same-length-6
-    returns
-    earlier-requires
-    add-role
-    loop-less
-    loop-again
-    same-length-7
-    same-length-8
-    same-length-9
-    same-length-10
-    same-length-11
-    same-length-12
-    returns-2)
+    invariant-loop-role
+    decreases-loop-role
+    loop-role-init
+    try_role-tried-requires
+    enum_told-1
+    shape_of-marks-in-Reading
+    shape_of-coarse-in-Reading
+    shape_of-numbers-in-Reading
+    shape_of-map-in-Reading
+    shape_of-faces-in-Reading
+    shape_of-table-in-Reading
+    returns-in-Reading
+    earlier-remembered-requires
+    overflow_add-role
+    loop-role-smaller
+    loop-role-preserved
+    shape_of-marks
+    shape_of-coarse
+    shape_of-numbers
+    shape_of-map
+    shape_of-faces
+    shape_of-table
+    returns)

@@ -112,9 +112,8 @@ shape_of-opened-then-count-triangles : tie.Need-shape_of-opened-then-count-trian
 shape_of-opened-then-count-triangles c = search rules
 
 returns-then-count-triangles : tie.Need-returns-then-count-triangles
-returns-then-count-triangles c = let e = started (marked_by c.before.before.before) in
-    uneven (gathered (entry e.before).requires (entry e.before).args.role e.before.start.ensures e.if1.left
-    c.reach.ensures c.select-count.ensures) c.if-count-triangles.true
+returns-then-count-triangles c = uneven (gathered (entry (started (marked_by c.before.before.before)).before).requires (entry (started (marked_by c.before.before.before)).before).args.role (started (marked_by c.before.before.before)).start-tile.ensures (started (marked_by c.before.before.before)).if-tile-triangles.false
+    (marked_by c.before.before.before).reach.ensures c.select-count.ensures) c.if-count-triangles.true
 
 shape_of-marks : tie.Need-shape_of-marks
 shape_of-marks c = search rules
@@ -129,13 +128,11 @@ shape_of-opened : tie.Need-shape_of-opened
 shape_of-opened c = search rules
 
 returns : tie.Need-returns
-returns c = let e = started (marked_by c.before.before.before) in
-    let a = entry e.before in
-    quarter
-    (gathered a.requires a.args.role e.before.start.ensures e.if1.left c.reach.ensures
+returns c = quarter
+    (gathered (entry (started (marked_by c.before.before.before)).before).requires (entry (started (marked_by c.before.before.before)).before).args.role (started (marked_by c.before.before.before)).start-tile.ensures (started (marked_by c.before.before.before)).if-tile-triangles.false (marked_by c.before.before.before).reach.ensures
     c.select-count.ensures)
     c.if-count-triangles.false
-    (omega (arith, a.requires.inside, c.if-count-triangles.false))
+    (omega (arith, (entry (started (marked_by c.before.before.before)).before).requires.inside, c.if-count-triangles.false))
 
 pub find_tiles_spec : {M : Type 1} → statement M
 find_tiles_spec =

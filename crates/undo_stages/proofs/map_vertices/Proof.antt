@@ -29,11 +29,11 @@ scatter-requires : tie.Need-scatter-requires
 scatter-requires c κs = search rules
 
 scatter-requires-2 : tie.Need-scatter-requires-2
-scatter-requires-2 c κs = corners-lent (start (selecting c.before.before.before)).requires c.select.ensures c.scatter.auto.table
-    c.select.auto.out
+scatter-requires-2 c κs = corners-lent (start (selecting c.before.before.before)).requires (selecting c.before.before.before).select.ensures c.scatter.auto.table
+    (selecting c.before.before.before).select.auto.out
 
 holds-requires : tie.Need-holds-requires
-holds-requires c κs = kept-lent (start (selecting (scattering c.before.before))).requires (c.scatter-2.auto.table ∙ c.scatter.auto.table)
+holds-requires c κs = kept-lent (start (selecting (scattering c.before.before))).requires (c.scatter-2.auto.table ∙ (scattering c.before.before).scatter.auto.table)
 
 shape_of-map-then-not-holds : tie.Need-shape_of-map-then-not-holds
 shape_of-map-then-not-holds c = search rules
@@ -42,14 +42,12 @@ shape_of-corners-then-not-holds : tie.Need-shape_of-corners-then-not-holds
 shape_of-corners-then-not-holds c = search rules
 
 returns-then-not-holds : tie.Need-returns-then-not-holds
-returns-then-not-holds c = let call = selecting (scattering c.before.before.before.before) in
-    vertices-refused (start call).requires call.select.ensures c.scatter.ensures c.scatter-2.ensures
+returns-then-not-holds c = vertices-refused (start (selecting (scattering c.before.before.before.before))).requires (selecting (scattering c.before.before.before.before)).select.ensures (scattering c.before.before.before.before).scatter.ensures c.scatter-2.ensures
     c.holds.ensures c.if-not-holds.true
 
 holds-requires-2 : tie.Need-holds-requires-2
-holds-requires-2 c κs = let call = selecting (scattering c.before.before.before.before) in
-    corners-lent (start call).requires call.select.ensures
-    (c.scatter-2.auto.table ∙ c.scatter.auto.table) call.select.auto.1.1.1.0
+holds-requires-2 c κs = corners-lent (start (selecting (scattering c.before.before.before.before))).requires (selecting (scattering c.before.before.before.before)).select.ensures
+    (c.scatter-2.auto.table ∙ (scattering c.before.before.before.before).scatter.auto.table) (selecting (scattering c.before.before.before.before)).select.auto.out
 
 shape_of-map : tie.Need-shape_of-map
 shape_of-map c = search rules
@@ -58,8 +56,7 @@ shape_of-corners : tie.Need-shape_of-corners
 shape_of-corners c = search rules
 
 returns : tie.Need-returns
-returns c = let call = selecting (scattering c.before.before.before.before.before) in
-    vertices-held (start call).requires call.select.ensures c.scatter.ensures c.scatter-2.ensures
+returns c = vertices-held (start (selecting (scattering c.before.before.before.before.before))).requires (selecting (scattering c.before.before.before.before.before)).select.ensures (scattering c.before.before.before.before.before).scatter.ensures c.scatter-2.ensures
     c.holds.ensures c.if-not-holds.false c.holds-2.ensures
 
 pub map_vertices_spec : {M : Type 1} → statement M

@@ -40,22 +40,18 @@ selecting c = c.before.before.before.before
 -- the tables of the coarse mesh
 made : (c : tie.After-selected_ring)
     → CoarseTables (origin c).args.vertices (origin c).args.triangles (origin c).args.count
-    (origin c).args.ring.now (origin c).args.marks.now (origin c).args.auto.now
+    (origin c).args.ring.now (origin c).args.marks.now (origin c).args.kept.now
     (ranking (gathering (tiling c))).ranks-kept_count.result (gathering (tiling c)).gather.new.out
     c.selected_ring.new.out
 made c =
-    let g = gathering (tiling c) in
-    let r = ranking g in
-    let m = marking r in
-    tables (entry (clearing m)).requires m.mark-used.ensures r.ranks.ensures g.gather.auto.1.1.1.0
-    g.gather.ensures c.ranks.ensures c.selected_ring.ensures
+    tables (entry (clearing (marking (ranking (gathering (tiling c)))))).requires (marking (ranking (gathering (tiling c)))).mark_used.ensures (ranking (gathering (tiling c))).ranks-kept_count.ensures (gathering (tiling c)).gather.auto.out
+    (gathering (tiling c)).gather.ensures (tiling c).ranks.ensures c.selected_ring.ensures
 
 -- the table of the rings is as long as at first
 table-length : (c : tie.After-selected_ring)
     → length c.selected_ring.new.out ≡ length (origin c).args.table.now
 table-length c =
-    let m = marking (ranking (gathering (tiling c))) in
-    c.selected_ring.auto.out ∙ m.mark-used.auto.1.1.1.0 ∙ (clearing m).fill.auto.s
+    c.selected_ring.auto.out ∙ (marking (ranking (gathering (tiling c)))).mark_used.auto.marks ∙ (clearing (marking (ranking (gathering (tiling c))))).fill.auto.s
 
 -- ---- the answers
 overflow_mul-halves : tie.Need-overflow_mul-halves
@@ -80,10 +76,8 @@ ranks-requires : tie.Need-ranks-requires
 ranks-requires c κs = search rules
 
 selected_ring-requires : tie.Need-selected_ring-requires
-selected_ring-requires c κs = let r = ranking (gathering c.before.before.before) in
-    let m = marking r in
-    selectable (entry (clearing m)).requires (c.ranks.auto.rank ∙ r.ranks.auto.1.1.0)
-    (m.mark-used.auto.1.1.1.0 ∙ (clearing m).fill.auto.s) c.ranks.ensures
+selected_ring-requires c κs = selectable (entry (clearing (marking (ranking (gathering c.before.before.before))))).requires (c.ranks.auto.rank ∙ (ranking (gathering c.before.before.before)).ranks-kept_count.auto.rank)
+    ((marking (ranking (gathering c.before.before.before))).mark_used.auto.marks ∙ (clearing (marking (ranking (gathering c.before.before.before)))).fill.auto.s) c.ranks.ensures
 
 number_edges-edges-requires : tie.Need-number_edges-edges-requires
 number_edges-edges-requires c κs = numberable (origin c.before.before.before).requires (made c.before.before.before) (table-length c.before.before.before)

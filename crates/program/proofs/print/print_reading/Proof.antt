@@ -22,68 +22,62 @@ lent s =
 abbrev Still : tie.Start → List (List ℕ) → ℕ → List ℕ → Type 0
 Still s = Left (reading_text s.args.role (lent s)) s.args.text.now 0
 
-abbrev start : tie.After-put-answer-arg → tie.Start
+abbrev start : tie.After-put_answer-arg-1 → tie.Start
 start c = c.before.before.before.before.before
 
 -- all but the answer
-three-left : (c : tie.After-put-answer)
-    → let s = start c.before in
-    let r = lent s in
-    Still s
+three-left : (c : tie.After-put_answer-second)
+    → let r = lent (start c.before) in
+    Still (start c.before)
     (frames r.vertices r.mesh ∷ map_lines 0x56 r.vertex_map ∷ map_lines 0x54 r.triangle_map ∷ [])
-    c.put-answer.result c.put-answer.new.0
+    c.put_answer-second.result c.put_answer-second.new.out
 three-left c =
-    left-more (left-all _ (reading_text-parts _ _) (start c.before).requires.room) c.put-answer.ensures
+    left-more (left-all _ (reading_text-parts _ _) c.requires.room) c.put_answer-second.ensures
 
-abbrev first : tie.After-put-frames → tie.After-put-answer
+abbrev first : tie.After-put_frames-third → tie.After-put_answer-second
 first c = c.before.before.before.before
 
 -- the maps
-two-left : (c : tie.After-put-frames)
-    → let s = start (first c).before in
-    let r = lent s in
-    Still s (map_lines 0x56 r.vertex_map ∷ map_lines 0x54 r.triangle_map ∷ []) c.put-frames.result
-    c.put-frames.new.0
-two-left c = left-more (three-left (first c)) c.put-frames.ensures
+two-left : (c : tie.After-put_frames-third)
+    → let r = lent (start (first c).before) in
+    Still (start (first c).before) (map_lines 0x56 r.vertex_map ∷ map_lines 0x54 r.triangle_map ∷ []) c.put_frames-third.result
+    c.put_frames-third.new.out
+two-left c = left-more (three-left (first c)) c.put_frames-third.ensures
 
-abbrev second : tie.After-put-map → tie.After-put-frames
+abbrev second : tie.After-put_map-last → tie.After-put_frames-third
 second c = c.before.before.before.before
 
 -- the triangle map
-one_left : (c : tie.After-put-map)
-    → let s = start (first (second c)).before in
-    Still s (map_lines 0x54 (lent s).triangle_map ∷ []) c.put_map.result c.put_map.new.0
-one_left c = left-more (two-left (second c)) c.put_map.ensures
+one_left : (c : tie.After-put_map-last)
+    → Still (start (first (second c)).before) (map_lines 0x54 (lent (start (first (second c)).before)).triangle_map ∷ []) c.put_map-last.result c.put_map-last.new.out
+one_left c = left-more (two-left (second c)) c.put_map-last.ensures
 
 -- ---- the answers
+put_answer-second-requires : tie.Need-put_answer-second-requires
+put_answer-second-requires c κs = left-room (left-all _ (reading_text-parts _ _) c.requires.room)
 
-put-answer-requires : tie.Need-put-answer-requires
-put-answer-requires c κs = left-room (left-all _ (reading_text-parts _ _) (start c).requires.room)
+put_frames-third-requires : tie.Need-put_frames-third-requires
+put_frames-third-requires c κs = record { listed = c.requires.corners; room = left-room (three-left c.before.before.before) }
 
-put-frames-requires : tie.Need-put-frames-requires
-put-frames-requires c κs =
-    let t = c.before.before.before in
-    record { listed = (start t.before).requires.corners; room = left-room (three-left t) }
+put_map-last-requires : tie.Need-put_map-last-requires
+put_map-last-requires c κs = record { listed = c.requires.vertices; room = left-room (two-left c.before.before.before) }
 
-put-map-requires : tie.Need-put-map-requires
-put-map-requires c κs =
-    let t = c.before.before.before in
-    record { listed = (start (first t).before).requires.vertices; room = left-room (two-left t) }
+put_map-requires : tie.Need-put_map-requires
+put_map-requires c κs = record { listed = c.requires.triangles; room = left-room (one_left c.before.before.before) }
 
-put-map-requires-2 : tie.Need-put-map-requires-2
-put-map-requires-2 c κs =
-    let t = c.before.before.before in
-    record { listed = (start (first (second t)).before).requires.triangles; room = left-room (one_left t) }
-
-same_length : tie.Need-same-length
-same_length c = search rules
+shape_of-text : tie.Need-shape_of-text
+shape_of-text c = search rules
 
 returns : tie.Need-returns
-returns c =
-    let e = c.before.before in
-    left-none (left-more (one_left e.before.before.before.before) e.put-map2.ensures)
+returns c = left-none (left-more (one_left c.before.before.before.before.before.before) c.put_map.ensures)
 
-pub print-reading-spec : {M : Type 1} → statement M
-print-reading-spec =
+pub print_reading_spec : {M : Type 1} → statement M
+print_reading_spec =
     tie.close
-    (tie.spec put-answer-requires put-frames-requires put-map-requires put-map-requires-2 same_length returns)
+    (tie.spec
+    put_answer-second-requires
+    put_frames-third-requires
+    put_map-last-requires
+    put_map-requires
+    shape_of-text
+    returns)

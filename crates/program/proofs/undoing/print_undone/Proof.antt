@@ -4,36 +4,34 @@ use Rattle.program.proofs.Undone.{answer-room, refusal-printed, reading-lent, re
 use Rattle.program.proofs.undoing.print_undone.Statement.{statement}
 use Rattle.program.proofs.undoing.print_undone.Tie as tie
 
-abbrev start : tie.After-struct-known → tie.Start
+abbrev start : tie.After-struct_known-1 → tie.Start
 start c = c.before.before.before.before.before.before
 
-put-answer-requires : tie.Need-put-answer-requires
-put-answer-requires c κs = answer-room (start c.before.before).requires.text_room _ _ _
+put_answer-requires : tie.Need-put_answer-requires
+put_answer-requires c κs = answer-room c.requires.text_room _ _ _
 
-same_length : tie.Need-same-length
-same_length c = search rules
+shape_of-text-then-answer-ne0 : tie.Need-shape_of-text-then-answer-ne0
+shape_of-text-then-answer-ne0 c = search rules
+
+returns-then-answer-ne0 : tie.Need-returns-then-answer-ne0
+returns-then-answer-ne0 c = refusal-printed c.requires c.if-answer-ne0.true c.put_answer.ensures
+
+print_reading-requires : tie.Need-print_reading-requires
+print_reading-requires c κs = reading-lent c.requires c.if-answer-ne0.false
+
+shape_of-text : tie.Need-shape_of-text
+shape_of-text c = search rules
 
 returns : tie.Need-returns
-returns c =
-    let p = c.before.before in
-    let t = p.before.before in
-    refusal-printed (start t.before).requires t.if1.true p.put-answer.ensures
+returns c = reading-printed c.requires c.if-answer-ne0.false c.print_reading.ensures
 
-print-reading-requires : tie.Need-print-reading-requires
-print-reading-requires c κs =
-    let e = c.before in
-    reading-lent (start e.before).requires e.if1.false
-
-same-length-2 : tie.Need-same-length-2
-same-length-2 c = search rules
-
-returns-2 : tie.Need-returns-2
-returns-2 c =
-    let p = c.before.before in
-    let e = p.before.before in
-    reading-printed (start e.before).requires e.if1.false p.print-reading.ensures
-
-pub print-undone-spec : {M : Type 1} → statement M
-print-undone-spec =
+pub print_undone_spec : {M : Type 1} → statement M
+print_undone_spec =
     tie.close
-    (tie.spec put-answer-requires same_length returns print-reading-requires same-length-2 returns-2)
+    (tie.spec
+    put_answer-requires
+    shape_of-text-then-answer-ne0
+    returns-then-answer-ne0
+    print_reading-requires
+    shape_of-text
+    returns)
