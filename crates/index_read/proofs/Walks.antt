@@ -135,6 +135,11 @@ pub record Met (text so_far : List ℕ) (at corners face : ℕ) (answer : Run) (
   pub taken : RunTaken text at answer
   pub stepped : Stepped answer corners face made
 
+pub met : {text so_far : List ℕ} {at corners face : ℕ} {answer : Run} {made : Step} → Walk text so_far at corners face
+    → at < length text → RunTaken text at answer → Stepped answer corners face made
+    → Met text so_far at corners face answer made
+met w l t s = record { walk = w; inside = l; taken = t; stepped = s }
+
 module _ {text so_far : List ℕ} {at corners face : ℕ} {answer : Run} {made : Step}
     (M : Met text so_far at corners face answer made) where
   -- what the text says by it and those after it

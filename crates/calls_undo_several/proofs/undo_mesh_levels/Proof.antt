@@ -18,42 +18,40 @@ use Rattle.calls_undo_several.proofs.undo_mesh_levels.Tie as tie
 -- ---- from each place to the call or the test before
 
 -- the function's start
-abbrev entry : tie.Else1 → tie.Start
+abbrev entry : tie.Else-number-ne0 → tie.Start
 entry c = c.before.before.before.before.before.before.before.before.before.before.before.before.before
 
 -- the test of the number
-abbrev left1 : tie.After-judge → tie.Else1
+abbrev left1 : tie.After-judge-verdict → tie.Else-number-ne0
 left1 c = c.before.before.before.before.before.before
 
 -- the judgement
-abbrev judging : tie.After-struct-known → tie.After-judge
+abbrev judging : tie.After-struct_known-1 → tie.After-judge-verdict
 judging c = c.before.before.before.before.before.before.before.before.before.before.before
 
 -- the counting of the boundary edges
-abbrev bounded : tie.After-copy → tie.After-count-boundary
+abbrev bounded : tie.After-copy → tie.After-count_boundary-boundary
 bounded p = p.before.before
 
 -- the counting of the edges
-abbrev edged : tie.After-copy → tie.After-count-edges
-edged p = (bounded p).before.before
+abbrev edged : tie.After-copy → tie.After-count_edges-edges
+edged p = (bounded p).before
 
 -- the test of the verdict
-abbrev left2 : tie.After-copy → tie.Else2
-left2 p = (edged p).before.before
+abbrev left2 : tie.After-copy → tie.Else-verdict-ne0
+left2 p = (edged p).before
 
 -- the judgement before the copy
-abbrev judged : tie.After-copy → tie.After-judge
+abbrev judged : tie.After-copy → tie.After-judge-verdict
 judged p = judging (left2 p).before
 
 -- the copy
-abbrev copying : tie.After-undo-levels → tie.After-copy
-copying c =
-    c.before.before.before.before.before.before.before.before.before.before.before.before.before.before
+abbrev copying : tie.After-undo_levels-undone → tie.After-copy
+copying c = c.before.before.before.before.before.before.before.before.before.before.before.before.before.before
 
 -- the levels
-abbrev undoing : tie.After-accepted-several → tie.After-undo-levels
-undoing c =
-    c.before.before.before.before.before.before.before.before.before.before.before.before.before.before.before.before.before.before.before.before.before.before.before
+abbrev undoing : tie.After-accepted_several → tie.After-undo_levels-undone
+undoing c = c.before.before.before.before.before.before.before.before.before.before.before.before.before.before.before.before.before.before.before.before.before.before.before
 
 -- ---- the work buffers
 
@@ -64,217 +62,193 @@ lent s =
     s.args.coarse.now s.args.numbers.now s.args.map.now s.args.faces.now s.args.table.now
 
 -- after the judgement
-abbrev after_judge : tie.After-judge → Buffers
+abbrev after_judge : tie.After-judge-verdict → Buffers
 after_judge j =
-    let s = entry (left1 j) in
-    buffers s.args.other.now s.args.rows.now j.judge.new.1.1.1.0 j.judge.new.1.1.1.1.0
-    j.judge.new.1.1.1.1.1.0 j.judge.new.1.1.1.1.1.1.0
-    j.judge.new.1.1.1.1.1.1.1.0 s.args.faces.now s.args.table.now
+    buffers j.args.other.now j.args.rows.now j.judge-verdict.new.ring j.judge-verdict.new.work1
+    j.judge-verdict.new.work2 j.judge-verdict.new.work3
+    j.judge-verdict.new.work4 j.args.faces.now j.args.table.now
 
 -- after the levels
-abbrev after_levels : tie.After-undo-levels → Buffers
+abbrev after_levels : tie.After-undo_levels-undone → Buffers
 after_levels u =
-    buffers u.undo-levels.new.1.1.1.1.0 u.undo-levels.new.1.1.1.1.1.0
-    u.undo-levels.new.1.1.1.1.1.1.0 u.undo-levels.new.1.1.1.1.1.1.1.0
-    u.undo-levels.new.1.1.1.1.1.1.1.1.0 u.undo-levels.new.1.1.1.1.1.1.1.1.1.0
-    u.undo-levels.new.1.1.1.1.1.1.1.1.1.1.0
-    u.undo-levels.new.1.1.1.1.1.1.1.1.1.1.1.0
-    u.undo-levels.new.1.1.1.1.1.1.1.1.1.1.1.1.0
+    buffers u.undo_levels-undone.new.other u.undo_levels-undone.new.rows
+    u.undo_levels-undone.new.ring u.undo_levels-undone.new.marks
+    u.undo_levels-undone.new.coarse u.undo_levels-undone.new.numbers
+    u.undo_levels-undone.new.map
+    u.undo_levels-undone.new.faces
+    u.undo_levels-undone.new.table
 
 -- the judgement keeps their lengths
-judge-kept : (j : tie.After-judge) → SameLengths (lent (entry (left1 j))) (after_judge j)
+judge-kept : (j : tie.After-judge-verdict) → SameLengths (lent (entry (left1 j))) (after_judge j)
 judge-kept j = record {
   other = refl;
   rows = refl;
-  ring = j.judge.auto.1.1.1.0;
-  marks = j.judge.auto.1.1.1.1.0;
-  coarse = j.judge.auto.1.1.1.1.1.0;
-  numbers = j.judge.auto.1.1.1.1.1.1.0;
-  map = j.judge.auto.1.1.1.1.1.1.1.0;
+  ring = j.judge-verdict.auto.ring;
+  marks = j.judge-verdict.auto.work1;
+  coarse = j.judge-verdict.auto.work2;
+  numbers = j.judge-verdict.auto.work3;
+  map = j.judge-verdict.auto.work4;
   faces = refl;
   table = refl;
 }
 
 -- so do the levels
-levels-kept : (u : tie.After-undo-levels) → SameLengths (lent (entry (left1 (judged (copying u))))) (after_levels u)
+levels-kept : (u : tie.After-undo_levels-undone) → SameLengths (lent (entry (left1 (judged (copying u))))) (after_levels u)
 levels-kept u = kept_on (judge-kept (judged (copying u))) (record {
-  other = u.undo-levels.auto.1.1.1.1.0;
-  rows = u.undo-levels.auto.1.1.1.1.1.0;
-  ring = u.undo-levels.auto.1.1.1.1.1.1.0;
-  marks = u.undo-levels.auto.1.1.1.1.1.1.1.0;
-  coarse = u.undo-levels.auto.1.1.1.1.1.1.1.1.0;
-  numbers = u.undo-levels.auto.1.1.1.1.1.1.1.1.1.0;
-  map = u.undo-levels.auto.1.1.1.1.1.1.1.1.1.1.0;
-  faces = u.undo-levels.auto.1.1.1.1.1.1.1.1.1.1.1.0;
-  table = u.undo-levels.auto.1.1.1.1.1.1.1.1.1.1.1.1.0;
+  other = u.undo_levels-undone.auto.other;
+  rows = u.undo_levels-undone.auto.rows;
+  ring = u.undo_levels-undone.auto.ring;
+  marks = u.undo_levels-undone.auto.marks;
+  coarse = u.undo_levels-undone.auto.coarse;
+  numbers = u.undo_levels-undone.auto.numbers;
+  map = u.undo_levels-undone.auto.map;
+  faces = u.undo_levels-undone.auto.faces;
+  table = u.undo_levels-undone.auto.table;
 })
 
 -- past the second test 6 to 10 are passed
-passed : (l : tie.Else2)
-    → let s = entry (left1 (judging l.before)) in
-    Passed (mesh_rules s.args.vertices s.args.list.now)
-passed l = judged-passed (judging l.before).judge.ensures.verdict l.if2.false (omega arith)
+passed : (l : tie.Else-verdict-ne0)
+    → Passed (mesh_rules l.args.vertices l.args.list.now)
+passed l = judged-passed l.judge-verdict.ensures.verdict l.if-verdict-ne0.false (omega arith)
 
 -- past the first, the mesh has few half-edges
-few : (j : tie.After-judge) → 3 * triangles (entry (left1 j)).args.list.now < 65536
+few : (j : tie.After-judge-verdict) → 3 * triangles j.args.list.now < 65536
 few j =
-    let l = left1 j in
-    omega (arith, (lent-housed (entry l).pre l.if1.left).sizes.few)
+    omega (arith, (lent-housed j.requires j.if-number-ne0.false).sizes.few)
 
 -- and the counting of its edges has what it requires
-ring-countable : (j : tie.After-judge)
-    → CountLent (3 * triangles (entry (left1 j)).args.list.now) (after_judge j).ring
+ring-countable : (j : tie.After-judge-verdict)
+    → CountLent (3 * triangles j.args.list.now) (after_judge j).ring
 ring-countable j =
-    let l = left1 j in
-    countable (housed-kept (judge-kept j) (lent-housed (entry l).pre l.if1.left))
+    countable (housed-kept (judge-kept j) (lent-housed j.requires j.if-number-ne0.false))
 
 -- ---- the answers
+refused_several-requires : tie.Need-refused_several-requires
+refused_several-requires c κs = tt
 
-refused-several-requires : tie.Need-refused-several-requires
-refused-several-requires c κs = tt
+returns-then-number-ne0 : tie.Need-returns-then-number-ne0
+returns-then-number-ne0 c = refusing-sizes c.requires c.if-number-ne0.true c.refused_several.ensures
 
-returns : tie.Need-returns
-returns c =
-    let t = c.before in
-    refusing-sizes t.before.before.before.before.before.before.before.before.before.before.before.before.before.requires t.if1.true c.refused-several.ensures
+judge-verdict-requires : tie.Need-judge-verdict-requires
+judge-verdict-requires c κs = judgeable (lent-housed c.requires c.if-number-ne0.false)
 
-judge-requires : tie.Need-judge-requires
-judge-requires c κs =
-    let l = c.before.before.before.before.before in
-    judgeable (lent-housed (entry l).requires l.if1.false)
+refused_several-requires-then-verdict-ne0 : tie.Need-refused_several-requires-then-verdict-ne0
+refused_several-requires-then-verdict-ne0 c κs = tt
 
-refused-several-requires-2 : tie.Need-refused-several-requires-2
-refused-several-requires-2 c κs = tt
+shape_of-ring-then-verdict-ne0 : tie.Need-shape_of-ring-then-verdict-ne0
+shape_of-ring-then-verdict-ne0 c = (judge-kept (judging c.before.before)).ring
 
-same_length : tie.Need-same-length
-same_length c = (judge-kept (judging c.before.before)).ring
+shape_of-marks-then-verdict-ne0 : tie.Need-shape_of-marks-then-verdict-ne0
+shape_of-marks-then-verdict-ne0 c = (judge-kept (judging c.before.before)).marks
 
-same-length-2 : tie.Need-same-length-2
-same-length-2 c = (judge-kept (judging c.before.before)).marks
+shape_of-coarse-then-verdict-ne0 : tie.Need-shape_of-coarse-then-verdict-ne0
+shape_of-coarse-then-verdict-ne0 c = (judge-kept (judging c.before.before)).coarse
 
-same-length-3 : tie.Need-same-length-3
-same-length-3 c = (judge-kept (judging c.before.before)).coarse
+shape_of-numbers-then-verdict-ne0 : tie.Need-shape_of-numbers-then-verdict-ne0
+shape_of-numbers-then-verdict-ne0 c = (judge-kept (judging c.before.before)).numbers
 
-same-length-4 : tie.Need-same-length-4
-same-length-4 c = (judge-kept (judging c.before.before)).numbers
+shape_of-map-then-verdict-ne0 : tie.Need-shape_of-map-then-verdict-ne0
+shape_of-map-then-verdict-ne0 c = (judge-kept (judging c.before.before)).map
 
-same-length-5 : tie.Need-same-length-5
-same-length-5 c = (judge-kept (judging c.before.before)).map
+returns-then-verdict-ne0 : tie.Need-returns-then-verdict-ne0
+returns-then-verdict-ne0 c = refusing c.requires c.if-number-ne0.false c.judge-verdict.ensures c.if-verdict-ne0.true
+    c.refused_several-then-verdict-ne0.ensures
 
-returns-2 : tie.Need-returns-2
-returns-2 c =
-    let j = judging c.before.before in
-    let l = left1 j in
-    refusing (entry l).pre l.if1.left j.judge.ensures c.before.if2.true
-    c.refused-several2.ensures
+overflow_mul-triangles : tie.Need-overflow_mul-triangles
+overflow_mul-triangles c = omega (arith, few (judging c.before))
 
-mul-count-edges : tie.Need-overflow-mul-count-edges
-mul-count-edges c = omega (arith, few (judging c.before.before))
+count_edges-edges-requires : tie.Need-count_edges-edges-requires
+count_edges-edges-requires c κs = ring-countable (judging c.before)
 
-count-edges-requires : tie.Need-count-edges-requires
-count-edges-requires c κs = ring-countable (judging c.before.before)
+overflow_mul-triangles-2 : tie.Need-overflow_mul-triangles-2
+overflow_mul-triangles-2 c = omega (arith, few (judging c.before.before))
 
-mul-count-boundary : tie.Need-overflow-mul-count-boundary
-mul-count-boundary c = omega (arith, few (judging c.before.before.before.before))
+count_boundary-boundary-requires : tie.Need-count_boundary-boundary-requires
+count_boundary-boundary-requires c κs = ring-countable (judging c.before.before)
 
-count-boundary-requires : tie.Need-count-boundary-requires
-count-boundary-requires c κs = ring-countable (judging c.before.before.before.before)
-
-mul-copy : tie.Need-overflow-mul-copy
-mul-copy c = omega (arith, few (judging c.before.before.before.before.before.before))
+overflow_mul-triangles-3 : tie.Need-overflow_mul-triangles-3
+overflow_mul-triangles-3 c = omega (arith, few (judging c.before.before.before.before))
 
 copy-requires : tie.Need-copy-requires
-copy-requires c κs =
-    let l = left1 (judging c.before.before.before.before.before.before) in
-    list_copied (entry l).pre l.if1.left
+copy-requires c κs = list_copied c.requires c.if-number-ne0.false
 
-undo-levels-requires : tie.Need-undo-levels-requires
-undo-levels-requires c κs =
-    let p = c.before.before.before.before.before.before.before.before.before.before.before.before.before in
-    let j = judged p in
-    let l = left1 j in
-    levels-lent (entry l).pre l.if1.left p.copy.ensures (passed (left2 p)) (judge-kept j)
-    p.copy.kept.1.0
-    (j.judge.ensures.ringed (left2 p).if2.left)
-    (edged p).count-edges.ensures (bounded p).count-boundary.ensures
+undo_levels-undone-requires : tie.Need-undo_levels-undone-requires
+undo_levels-undone-requires c κs = levels-lent c.requires c.if-number-ne0.false c.copy.ensures (passed (left2 c.before.before.before.before.before.before.before.before.before.before.before.before.before)) (judge-kept (judged c.before.before.before.before.before.before.before.before.before.before.before.before.before))
+    c.copy.auto.to
+    (c.judge-verdict.ensures.ringed c.if-verdict-ne0.false)
+    c.count_edges-edges.ensures c.count_boundary-boundary.ensures
 
-accepted-several-requires : tie.Need-accepted-several-requires
-accepted-several-requires c κs = tt
+accepted_several-requires : tie.Need-accepted_several-requires
+accepted_several-requires c κs = tt
 
-same-length-6 : tie.Need-same-length-6
-same-length-6 c = (undoing c).undo-levels.auto.1.1.1.0
+shape_of-out : tie.Need-shape_of-out
+shape_of-out c = c.undo_levels-undone.auto.out
 
-same-length-7 : tie.Need-same-length-7
-same-length-7 c =
-    let u = undoing c in
-    u.undo-levels.kept.1.1.0 ∙ (copying u).copy.kept.1.0
+shape_of-current : tie.Need-shape_of-current
+shape_of-current c = c.undo_levels-undone.auto.list ∙ c.copy.auto.to
 
-same-length-8 : tie.Need-same-length-8
-same-length-8 c = (levels-kept (undoing c)).other
+shape_of-other : tie.Need-shape_of-other
+shape_of-other c = (levels-kept (undoing c)).other
 
-same-length-9 : tie.Need-same-length-9
-same-length-9 c = (levels-kept (undoing c)).rows
+shape_of-rows : tie.Need-shape_of-rows
+shape_of-rows c = (levels-kept (undoing c)).rows
 
-same-length-10 : tie.Need-same-length-10
-same-length-10 c = (levels-kept (undoing c)).ring
+shape_of-ring : tie.Need-shape_of-ring
+shape_of-ring c = (levels-kept (undoing c)).ring
 
-same-length-11 : tie.Need-same-length-11
-same-length-11 c = (levels-kept (undoing c)).marks
+shape_of-marks : tie.Need-shape_of-marks
+shape_of-marks c = (levels-kept (undoing c)).marks
 
-same-length-12 : tie.Need-same-length-12
-same-length-12 c = (levels-kept (undoing c)).coarse
+shape_of-coarse : tie.Need-shape_of-coarse
+shape_of-coarse c = (levels-kept (undoing c)).coarse
 
-same-length-13 : tie.Need-same-length-13
-same-length-13 c = (levels-kept (undoing c)).numbers
+shape_of-numbers : tie.Need-shape_of-numbers
+shape_of-numbers c = (levels-kept (undoing c)).numbers
 
-same-length-14 : tie.Need-same-length-14
-same-length-14 c = (levels-kept (undoing c)).map
+shape_of-map : tie.Need-shape_of-map
+shape_of-map c = (levels-kept (undoing c)).map
 
-same-length-15 : tie.Need-same-length-15
-same-length-15 c = (levels-kept (undoing c)).faces
+shape_of-faces : tie.Need-shape_of-faces
+shape_of-faces c = (levels-kept (undoing c)).faces
 
-same-length-16 : tie.Need-same-length-16
-same-length-16 c = (levels-kept (undoing c)).table
+shape_of-table : tie.Need-shape_of-table
+shape_of-table c = (levels-kept (undoing c)).table
 
-returns-3 : tie.Need-returns-3
-returns-3 c =
-    let u = undoing c in
-    let p = copying u in
-    let l = left1 (judged p) in
-    accepting (entry l).pre l.if1.left p.copy.ensures (passed (left2 p)) u.undo-levels.ensures
-    c.accepted-several.ensures
+returns : tie.Need-returns
+returns c = accepting c.requires c.if-number-ne0.false c.copy.ensures (passed (left2 (copying (undoing c)))) c.undo_levels-undone.ensures
+    c.accepted_several.ensures
 
-pub undo-mesh-levels-spec : {M : Type 1} → statement M
-undo-mesh-levels-spec =
+pub undo_mesh_levels_spec : {M : Type 1} → statement M
+undo_mesh_levels_spec =
     tie.close
     (tie.spec
-    refused-several-requires
-    returns
-    judge-requires
-    refused-several-requires-2
-    same_length
-    same-length-2
-    same-length-3
-    same-length-4
-    same-length-5
-    returns-2
-    mul-count-edges
-    count-edges-requires
-    mul-count-boundary
-    count-boundary-requires
-    mul-copy
+    refused_several-requires
+    returns-then-number-ne0
+    judge-verdict-requires
+    refused_several-requires-then-verdict-ne0
+    shape_of-ring-then-verdict-ne0
+    shape_of-marks-then-verdict-ne0
+    shape_of-coarse-then-verdict-ne0
+    shape_of-numbers-then-verdict-ne0
+    shape_of-map-then-verdict-ne0
+    returns-then-verdict-ne0
+    overflow_mul-triangles
+    count_edges-edges-requires
+    overflow_mul-triangles-2
+    count_boundary-boundary-requires
+    overflow_mul-triangles-3
     copy-requires
-    undo-levels-requires
-    accepted-several-requires
-    same-length-6
-    same-length-7
-    same-length-8
-    same-length-9
-    same-length-10
-    same-length-11
-    same-length-12
-    same-length-13
-    same-length-14
-    same-length-15
-    same-length-16
-    returns-3)
+    undo_levels-undone-requires
+    accepted_several-requires
+    shape_of-out
+    shape_of-current
+    shape_of-other
+    shape_of-rows
+    shape_of-ring
+    shape_of-marks
+    shape_of-coarse
+    shape_of-numbers
+    shape_of-map
+    shape_of-faces
+    shape_of-table
+    returns)

@@ -54,13 +54,13 @@ returns-then-read-ne0 c = refused-printed (omega arith) c.requires c.judge_bytes
     c.read_frames-read.ensures c.if-read-ne0.true c.put_answer-then-read-ne0.ensures
 
 overflow_mul-corners : tie.Need-overflow_mul-corners
-overflow_mul-corners c = omega (arith, (was_read c).ranges)
+overflow_mul-corners c = omega (arith, (was_read c).fits)
 
 slice_bounds-list-end : tie.Need-slice_bounds-list-end
-slice_bounds-list-end c = omega (arith, (was_read c).ranges, c.read_frames-read.auto.out)
+slice_bounds-list-end c = omega (arith, (was_read c).fits, c.read_frames-read.auto.out)
 
 slice_bounds-print_mesh-end : tie.Need-slice_bounds-print_mesh-end
-slice_bounds-print_mesh-end c = sym (length-take-le _ _ (omega (arith, (was_read c.before).ranges, c.read_frames-read.auto.out)))
+slice_bounds-print_mesh-end c = sym (length-take-le _ _ (omega (arith, (was_read c.before).fits, c.read_frames-read.auto.out)))
 
 print_mesh-requires : tie.Need-print_mesh-requires
 print_mesh-requires c κs = search rules

@@ -38,7 +38,7 @@ module _ (out : List ℕ) (k : ℕ) where
 
 pub returns-in_default : goal.returns-in_default
 returns-in_default c = let args = c.args in
-    none_written args.out.now args.k args.run ?
+    none_written args.out.now args.k args.run c.in_default.not-Corner
 
 pub bounds-out-k : goal.bounds-out-k
 bounds-out-k c = entry-there _ _ c.requires c.in-Corner.is

@@ -67,7 +67,7 @@ slice_bounds-print_undone-end-3 : tie.Need-slice_bounds-print_undone-end-3
 slice_bounds-print_undone-end-3 c = search rules
 
 print_undone-requires : tie.Need-print_undone-requires
-print_undone-requires c κs = let kept = c.undo_mesh-answer.auto.1.1.1.1 in
+print_undone-requires c κs =
     record {
       out = _;
       works = _;
@@ -76,9 +76,9 @@ print_undone-requires c κs = let kept = c.undo_mesh-answer.auto.1.1.1.1 in
       out_room = record { mesh = omega arith; vertices = omega arith; triangles = omega arith };
       work_room = record { long = refl };
       out_room' = record {
-        mesh = omega (arith, kept.0);
-        vertices = omega (arith, kept.1.0);
-        triangles = omega (arith, kept.1.1.0);
+        mesh = omega (arith, c.undo_mesh-answer.auto.mesh);
+        vertices = omega (arith, c.undo_mesh-answer.auto.vertex_map);
+        triangles = omega (arith, c.undo_mesh-answer.auto.triangle_map);
       };
       text_room = c.requires;
     }
