@@ -9,8 +9,7 @@ use index_write::call::write_index;
 // Reads a mesh of `vertices` vertices from its index text, the coord_index of a VRML97 IndexedFaceSet: its triangles,
 // three corners each, in the first entries of `out`. Its corners are not judged against `vertices`. Refusals 14, 4 and
 // 5, in this order.
-#[unsafe(no_mangle)]
-pub extern "C" fn flatcarol_read_index(vertices: u64, text: &[u8], out: &mut [u16]) -> FramesAnswer
+pub fn flatcarol_read_index(vertices: u64, text: &[u8], out: &mut [u16]) -> FramesAnswer
     ensures { ReadsIndex vertices text.now out.old (frames_answer_of result)
         out.new }
 {
@@ -19,8 +18,7 @@ pub extern "C" fn flatcarol_read_index(vertices: u64, text: &[u8], out: &mut [u1
 
 // Writes a mesh of `vertices` vertices, whose triangles are `list`, three corners each, as an index text, in the first
 // bytes of `out`. Its triangles may be none, and are not looked at. Refusals 2, 4 and 5.
-#[unsafe(no_mangle)]
-pub extern "C" fn flatcarol_write_index(vertices: u64, list: &[u16], out: &mut [u8]) -> TextAnswer
+pub fn flatcarol_write_index(vertices: u64, list: &[u16], out: &mut [u8]) -> TextAnswer
     ensures { WritesIndex vertices list.now out.old (text_answer_of result)
         out.new }
 {

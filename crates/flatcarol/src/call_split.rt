@@ -10,8 +10,7 @@ use calls_work::{clear_five, shortest_of_five};
 
 // Splits a mesh of `vertices` vertices, whose triangles are `list`, three corners each: every triangle becomes four,
 // in the first entries of `out`. Refusals 2 to 10.
-#[unsafe(no_mangle)]
-pub extern "C" fn flatcarol_split(
+pub fn flatcarol_split(
     vertices: u64,
     list: &[u16],
     out: &mut [u16],

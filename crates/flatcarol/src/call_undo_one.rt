@@ -12,8 +12,7 @@ use calls_work::{clear_nine, shortest_of_nine};
 // of triangle 0 (0 to 3), or in the least role that has a reading (4): the coarse mesh goes to the first entries of
 // `mesh`, and the number of each vertex and of each triangle in its splitting to those of the two maps. Refusals 1 to
 // 11.
-#[unsafe(no_mangle)]
-pub extern "C" fn flatcarol_undo_one(
+pub fn flatcarol_undo_one(
     vertices: u64,
     list: &[u16],
     asked: u64,

@@ -11,8 +11,7 @@ use calls_work::{clear_ten, shortest_of_ten};
 // Undoes up to `asked` splits, at most 7, of a mesh of `vertices` vertices, whose triangles are `list`, three corners
 // each, level by level, each in the least role that has a reading: the mesh that is left goes to the first entries of
 // `out`. It stops where no role has one. Refusals 1 to 10.
-#[unsafe(no_mangle)]
-pub extern "C" fn flatcarol_undo_several(
+pub fn flatcarol_undo_several(
     vertices: u64,
     list: &[u16],
     asked: u64,
