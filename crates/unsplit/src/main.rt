@@ -7,24 +7,28 @@
 mod input;
 
 use input::{Input, read_input};
-use io::write_all;
-use libc::{STDERR_FILENO, STDOUT_FILENO};
 use limits::limits::Limits;
 use program::answer;
 use program::sizes::Sizes;
+use std::io::Write;
 
-fn main() {
+fn main(rt: HostRuntime) {
     let mut bytes = [0u8; Sizes::INPUT];
     let mut text = [0u8; Sizes::TEXT];
-    let Input::Read(count) = read_input(&mut bytes) else {
-        write_all(STDERR_FILENO, b"unsplit: standard input cannot be read\n");
+    let Input::Read(count) = read_input(&mut rt.stdin(), &mut bytes) else {
+        complain(&rt, b"unsplit: standard input cannot be read\n");
         return;
     };
     let long = answer(&bytes[..count], Limits::ANY_ROLE, &mut text);
-    if !write_all(STDOUT_FILENO, &text[..long]) {
-        write_all(
-            STDERR_FILENO,
+    if rt.stdout().write_all(&text[..long]).is_err() {
+        complain(
+            &rt,
             b"unsplit: the answer cannot be written to standard output\n",
         );
     }
+}
+
+// Says what went wrong on standard error. Where that cannot be written either, there is nobody left to tell.
+fn complain(rt: &HostRuntime, message: &[u8]) {
+    if rt.stderr().write_all(message).is_err() {}
 }
