@@ -14,7 +14,7 @@ use limits::limits::Limits;
 
 // What split answers: the refusal's number and place, or 0, 0 and what is counted of the resulting mesh.
 #[repr(C)]
-#[derive(Drop)]
+#[derive(Clone, Copy)]
 pub struct Answer {
     pub refusal: u64,
     pub place: u64,
@@ -54,7 +54,7 @@ pub fn accepted(counts: Counts) -> Answer
 
 // What undo one answers: the same as split, and the role that triangle 0 has.
 #[repr(C)]
-#[derive(Drop)]
+#[derive(Clone, Copy)]
 pub struct OneAnswer {
     pub refusal: u64,
     pub place: u64,
@@ -98,7 +98,7 @@ pub fn accepted_one(counts: Counts, role: usize) -> OneAnswer
 // What undo several answers: the same as split, how many levels were undone, and the role of each, with 0 in the
 // places after them.
 #[repr(C)]
-#[derive(Drop)]
+#[derive(Clone, Copy)]
 pub struct SeveralAnswer {
     pub refusal: u64,
     pub place: u64,
@@ -147,7 +147,7 @@ pub fn accepted_several(undone: Levels) -> SeveralAnswer
 // What read frames, write frames and read index answer: the refusal's number and place, or 0, 0 and the V and F that
 // were read or written.
 #[repr(C)]
-#[derive(Drop)]
+#[derive(Clone, Copy)]
 pub struct FramesAnswer {
     pub refusal: u64,
     pub place: u64,
@@ -181,7 +181,7 @@ pub fn accepted_frames(vertices: usize, triangles: usize) -> FramesAnswer
 
 // What write index answers: the same, and how many bytes were written.
 #[repr(C)]
-#[derive(Drop)]
+#[derive(Clone, Copy)]
 pub struct TextAnswer {
     pub refusal: u64,
     pub place: u64,

@@ -8,7 +8,7 @@ use lists::copy;
 
 // How many levels were undone, what is counted of the mesh that is left, and the role of each level, with 0 in the
 // places after them.
-#[derive(Drop)]
+#[derive(Clone, Copy)]
 pub struct Levels {
     pub levels: u64,
     pub left: Counts,

@@ -14,7 +14,6 @@ mod try_undo;
 mod try_write;
 
 use io::{read_full, write_all};
-use libc::STDIN_FILENO;
 use numbers::{ANY, Found, next};
 use present::{BYTES, ENTRIES, Lent, Present};
 use try_read::{Reader, try_read, try_read_index};
@@ -27,7 +26,7 @@ const SPARE: u64 = 8;
 
 fn main() {
     let mut text = [0u8; BYTES + 1];
-    let count = read_full(STDIN_FILENO, &mut text);
+    let count = read_full(0, &mut text);
     if count > BYTES {
         write_all(1, b"wrong\n");
         return;

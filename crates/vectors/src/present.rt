@@ -12,7 +12,7 @@ const MANY: usize = 1000000;
 
 // Each buffer has `spare` entries more than it needs, but the buffer number `short`, counted from 1 in the order of the
 // call, has `fewer` entries fewer than it needs, or none.
-#[derive(Drop)]
+#[derive(Clone, Copy)]
 pub struct Lent {
     pub spare: usize,
     pub short: u64,
@@ -45,7 +45,7 @@ fn without(entries: usize, fewer: u64) -> usize {
 
 // The present mesh, its vertices and the entries of its list, which stand in a buffer beside it, how buffers are lent,
 // and the index after the commands that were obeyed.
-#[derive(Drop)]
+#[derive(Clone, Copy)]
 pub struct Present {
     pub vertices: u64,
     pub entries: usize,
