@@ -51,6 +51,7 @@ pub fn equal_corners(list: &[u16], triangles: usize) -> usize
 }
 
 // Whether two of three vertices are equal.
+#[tactic(auto, using(crate::proofs::Equal::first_equal, crate::proofs::Equal::second_equal, crate::proofs::Equal::last_decides))]
 pub fn has_equal(a: u16, b: u16, c: u16) -> bool
     ensures { HasEqual a b c result }
 {

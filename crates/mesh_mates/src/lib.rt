@@ -24,6 +24,7 @@ pub fn others(ring: &[u16], n: usize, other: &mut [u16])
 }
 
 // Whether half-edge h has a mate: the entry is another half-edge.
+#[tactic(auto, using(crate::proofs::Mates::alone, crate::proofs::Mates::mate_below))]
 pub fn has_mate(h: usize, halves: usize, other: &[u16]) -> bool
     requires { h < length other.now }
     ensures { Decides (HasMate halves other.now h) result }

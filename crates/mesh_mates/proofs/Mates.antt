@@ -1,4 +1,4 @@
--- `mesh_mates::has_mate` meets its contract: the tests are those of `HasMate`.
+-- What the tests of `has_mate` say of a half-edge's mate.
 use Prim.Native.Nat.{ℕ}
 use mathlib.Core.Path.{◌≡◌}
 use mathlib.Core.Logic.{◌≢◌}
@@ -6,29 +6,21 @@ use mathlib.Core.Bool.{false}
 use mathlib.Core.List.{List}
 use native.Mathlib.Omega.{arith}
 use lib.Dec.{ltb}
-use borrow.Author.Rules.{rules}
 use borrow.Author.Tests.{ltb-true, lt-ltb}
 use Rattle.theory.specs.Mesh.{at}
 use Rattle.mesh_mates.specs.Others.{HasMate}
 use Rattle.lists.specs.Decides.{Decides}
 use Rattle.lists.proofs.Decides.{decides_not}
-use Rattle.mesh_mates.proofs.has_mate.Goals as goal
 
 module _ {n h x : ℕ} {other : List ℕ} (e : x ≡ at other h) where
   -- an entry that is the half-edge itself is no mate
-  alone : x ≡ h → Decides (HasMate n other h) false
+  pub alone : x ≡ h → Decides (HasMate n other h) false
   alone s = decides_not (λ H. H.another (omega arith))
 
   -- any other is one exactly if it is a half-edge
-  mate-below : x ≢ h → Decides (HasMate n other h) (ltb x n)
-  mate-below ne =
+  pub mate_below : x ≢ h → Decides (HasMate n other h) (ltb x n)
+  mate_below ne =
       record {
         sound = λ t. record { inside = omega (arith, ltb-true x n t); another = omega arith };
         complete = λ H. lt-ltb x n (omega (arith, H.inside));
       }
-
-pub returns-then-across-h : goal.returns-then-across-h
-returns-then-across-h c = alone c.at-across.ensures c.if-across-h.true
-
-pub returns : goal.returns
-returns c = mate-below c.at-across.ensures c.if-across-h.false
