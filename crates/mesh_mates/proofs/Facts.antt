@@ -1,11 +1,11 @@
 -- What `others` makes of the rings is the other half-edge.
 use Prim.Native.Nat.{ℕ, ◌<◌}
-use mathlib.Core.Path.{◌≡◌, ◌∙◌, sym, ap}
+use mathlib.Core.Path.{◌∙◌, sym, ap}
 use mathlib.Core.Logic.{◌≢◌, inl, inr}
 use mathlib.Core.List.{List}
 use Rattle.theory.specs.Mesh.{at}
 use Rattle.lists.proofs.Lists.{by-eq}
-use Rattle.mesh_rings.specs.Ring.{FollowsBy, RingBy, Chosen, met, new}
+use Rattle.mesh_rings.specs.Ring.{RingBy, Chosen, met, new}
 use Rattle.mesh_rings.proofs.Facts.{follows-alone, ring-below, onward, back-two}
 use Rattle.mesh_mates.specs.Others.{OthersOf, OtherOf, alone, mate, several, Othered}
 

@@ -10,7 +10,7 @@ use Rattle.theory.specs.Limits.{program_triangles}
 use Rattle.theory.specs.Mesh.{triangles}
 use Rattle.theory.specs.Refusals.{input_too_long, Passed, Refused}
 use Rattle.theory.specs.Frames.{FramesAnswer, LinesSay, read_rules, ReadsFrames}
-use Rattle.theory.specs.Program.{answer_line, input_rules, PrintsMesh, Prints}
+use Rattle.theory.specs.Program.{answer_line, PrintsMesh, Prints}
 use Rattle.theory.proofs.Refusals.{refused-by-front, refused-by-back, passed-both, refused-above}
 use Rattle.theory.proofs.Reader.{passed-read}
 use Rattle.theory.proofs.Frames.{read_whole, read_fits}

@@ -1,7 +1,6 @@
 -- `calls_sizes::judge_undo_numbers` meets its contract: 1 by the verdict that it is given, and 2 to 4 by
 -- `judge_size_to_undo`.
 use native.Mathlib.Omega.{arith}
-use borrow.Author.Rules.{rules}
 use Rattle.limits.proofs.Judgement.{judged-passed, judged-front, judged-back}
 use Rattle.calls_sizes.proofs.judge_undo_numbers.Goals as goal
 

@@ -1,7 +1,6 @@
 -- `calls_sizes::judge_undo_one_room` meets its contract: each test is a buffer's.
 use native.Mathlib.Omega.{arith}
 use mathlib.Core.Logic.{inl, inr, ⊎_elim}
-use borrow.Author.Rules.{rules}
 use Rattle.theory.specs.Refusals.{Short}
 use Rattle.limits.proofs.Judgement.{judged-none, judged-at-0, judged-not}
 use Rattle.calls_sizes.proofs.judge_undo_one_room.Goals as goal

@@ -1,6 +1,5 @@
 -- `lists::at` meets its contract: an entry of 16 bits fits an index.
 use native.Mathlib.Omega.{arith}
-use borrow.Author.Rules.{rules}
 use Rattle.lists.proofs.at.Goals as goal
 
 pub overflow_cast-result : goal.overflow_cast-result

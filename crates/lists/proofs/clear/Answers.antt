@@ -4,7 +4,6 @@ use mathlib.Core.Path.{◌≡◌, ◌∙◌}
 use mathlib.Core.List.{List, ◌++◌, append-nil}
 use lib.ListN.{length, drop, replicate}
 use lib.Seq.{drop-length}
-use borrow.Author.Rules.{rules}
 use Rattle.theory.specs.Calls.{zeros}
 use Rattle.lists.proofs.clear.Goals as goal
 

@@ -1,10 +1,10 @@
 use native.Mathlib.Omega.{arith}
 use native.Mathlib.Numerals.{add-one}
 use native.Mathlib.Nat.{zero-add}
-use Prim.Native.Nat.{ℕ, ◌+◌, ◌-◌, ◌≤◌, ◌<◌}
+use Prim.Native.Nat.{ℕ, ◌+◌, ◌≤◌, ◌<◌}
 use mathlib.Core.Path.{◌≡◌, ◌∙◌, refl, ap}
 use mathlib.Core.List.{List, ◌++◌}
-use lib.ListN.{length, length-set, set, take, drop}
+use lib.ListN.{length-set, set, take, drop}
 use lib.Seq.{paste-suc}
 use Rattle.theory.specs.Mesh.{at}
 use Rattle.lists.proofs.copy.Invariants.{Turn}

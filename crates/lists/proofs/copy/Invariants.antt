@@ -1,14 +1,9 @@
 -- `lists::copy` meets its contract. The loop's invariant: the first i entries are those of `from`, and the others
 -- are as they were. The measure is what is left of n.
-use native.Mathlib.Omega.{arith}
-use native.Mathlib.Numerals.{add-one}
-use native.Mathlib.Nat.{zero-add}
-use Prim.Native.Nat.{ℕ, ◌+◌, ◌-◌, ◌≤◌, ◌<◌}
-use mathlib.Core.Path.{◌≡◌, ◌∙◌, refl, ap}
+use Prim.Native.Nat.{ℕ, ◌-◌, ◌≤◌}
+use mathlib.Core.Path.{◌≡◌}
 use mathlib.Core.List.{List, ◌++◌}
-use lib.ListN.{length, length-set, set, take, drop}
-use lib.Seq.{paste-suc}
-use Rattle.theory.specs.Mesh.{at}
+use lib.ListN.{length, take, drop}
 use Rattle.lists.proofs.copy.Given as goal
 
 pub record Turn (from to₀ : List ℕ) (n : ℕ) (to : List ℕ) (i : ℕ) : Type 0 where

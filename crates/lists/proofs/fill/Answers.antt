@@ -1,8 +1,8 @@
 use native.Mathlib.Omega.{arith}
-use Prim.Native.Nat.{ℕ, ◌+◌, ◌-◌, ◌≤◌, ◌<◌}
+use Prim.Native.Nat.{ℕ, ◌+◌, ◌≤◌, ◌<◌}
 use mathlib.Core.Path.{◌≡◌, ◌∙◌, refl, ap}
 use mathlib.Core.List.{List, ◌++◌}
-use lib.ListN.{length, length-set, set, drop, replicate}
+use lib.ListN.{length-set, set, drop, replicate}
 use borrow.Author.Fill.{fill_more}
 use Rattle.lists.proofs.fill.Invariants.{Turn}
 use Rattle.lists.proofs.fill.Goals as goal

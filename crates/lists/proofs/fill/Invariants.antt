@@ -1,11 +1,9 @@
 -- `lists::fill` meets its contract. The loop's invariant: the first i entries are the value, and the others are as
 -- they were. The measure is what is left of n.
-use native.Mathlib.Omega.{arith}
-use Prim.Native.Nat.{ℕ, ◌+◌, ◌-◌, ◌≤◌, ◌<◌}
-use mathlib.Core.Path.{◌≡◌, ◌∙◌, refl, ap}
+use Prim.Native.Nat.{ℕ, ◌-◌, ◌≤◌}
+use mathlib.Core.Path.{◌≡◌}
 use mathlib.Core.List.{List, ◌++◌}
-use lib.ListN.{length, length-set, set, drop, replicate}
-use borrow.Author.Fill.{fill_more}
+use lib.ListN.{length, drop, replicate}
 use Rattle.lists.proofs.fill.Given as goal
 
 pub record Turn (s₀ : List ℕ) (n value : ℕ) (s : List ℕ) (i : ℕ) : Type 0 where

@@ -1,9 +1,5 @@
 use native.Mathlib.Omega.{arith}
-use Prim.Native.Nat.{ℕ, ◌-◌, ◌≤◌, ◌<◌}
-use mathlib.Core.Path.{◌≡◌}
 use borrow.Author.Count.{below_more}
-use lib.ListN.{length}
-use Rattle.theory.specs.Mesh.{at}
 use Rattle.lists.proofs.first_zero.Goals as goal
 
 pub loop-i-init : goal.loop-i-init
@@ -18,7 +14,7 @@ loop-i-preserved c = let inv = c.loop-i.invariant in
 
 pub returns : goal.returns
 returns c = record {
-      within = omega arith;
-      here = λ l. absurd (omega arith);
-      before = λ k l. c.loop-i.invariant.2 k (omega arith);
-    }
+  within = omega arith;
+  here = λ l. absurd (omega arith);
+  before = λ k l. c.loop-i.invariant.2 k (omega arith);
+}

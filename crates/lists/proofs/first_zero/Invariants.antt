@@ -1,9 +1,7 @@
 -- `lists::first_zero` meets its contract. The loop's invariant: no entry before i is 0. The measure is what is left of
 -- n.
-use native.Mathlib.Omega.{arith}
 use Prim.Native.Nat.{ℕ, ◌-◌, ◌≤◌, ◌<◌}
 use mathlib.Core.Path.{◌≡◌}
-use borrow.Author.Count.{below_more}
 use lib.ListN.{length}
 use Rattle.theory.specs.Mesh.{at}
 use Rattle.lists.proofs.first_zero.Given as goal

@@ -50,10 +50,10 @@ loop-p-smaller c = omega arith
 
 loop-p-preserved : tie.Need-loop-p-preserved invariant-loop-p decreases-loop-p
 loop-p-preserved c = let turn = c.loop-p.invariant in (
-      turn.0,
-      holding-more turn.1 c.loop-p-test.true
-          c.at.ensures c.if-table-at.false,
-    )
+  turn.0,
+  holding-more turn.1 c.loop-p-test.true
+      c.at.ensures c.if-table-at.false,
+)
 
 returns : tie.Need-returns invariant-loop-p decreases-loop-p
 returns c = holding-all c.loop-p.invariant.1 c.loop-p-test.false

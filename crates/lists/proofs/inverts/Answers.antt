@@ -1,8 +1,6 @@
 use native.Mathlib.Omega.{arith}
-use Prim.Native.Nat.{◌-◌}
 use mathlib.Core.Path.{◌∙◌, sym}
-use Rattle.lists.specs.Keys.{InvertLent}
-use Rattle.lists.proofs.Keys.{Holding, holding-none, holding-more, holding-all, holding-not}
+use Rattle.lists.proofs.Keys.{holding-none, holding-more, holding-all, holding-not}
 use Rattle.lists.proofs.inverts.Goals as goal
 
 pub loop-p-init : goal.loop-p-init
@@ -17,10 +15,10 @@ returns-then-at-p c = holding-not c.loop-p-test.true c.at.ensures
 
 pub loop-p-preserved : goal.loop-p-preserved
 loop-p-preserved c = let turn = c.loop-p.invariant in (
-      turn.0,
-      holding-more turn.1 c.loop-p-test.true c.at.ensures
-          (sym c.at-in-loop-p.ensures ∙ c.if-at-p.false),
-    )
+  turn.0,
+  holding-more turn.1 c.loop-p-test.true c.at.ensures
+      (sym c.at-in-loop-p.ensures ∙ c.if-at-p.false),
+)
 
 pub returns : goal.returns
 returns c = holding-all c.loop-p.invariant.1 c.loop-p-test.false

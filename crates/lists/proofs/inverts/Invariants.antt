@@ -1,10 +1,8 @@
 -- `lists::inverts` meets its contract. The loop's invariant: the first p indices are found at their keys. The measure
 -- is what is left of n.
-use native.Mathlib.Omega.{arith}
 use Prim.Native.Nat.{◌-◌}
-use mathlib.Core.Path.{◌∙◌, sym}
 use Rattle.lists.specs.Keys.{InvertLent}
-use Rattle.lists.proofs.Keys.{Holding, holding-none, holding-more, holding-all, holding-not}
+use Rattle.lists.proofs.Keys.{Holding}
 use Rattle.lists.proofs.inverts.Given as goal
 
 abbrev pub invariant-loop-p : goal.invariant-loop-p

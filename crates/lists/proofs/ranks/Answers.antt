@@ -1,5 +1,5 @@
 use native.Mathlib.Omega.{arith}
-use Prim.Native.Nat.{ℕ, ◌+◌, ◌-◌, ◌≤◌, ◌<◌}
+use Prim.Native.Nat.{ℕ, ◌+◌, ◌≤◌, ◌<◌}
 use mathlib.Core.Path.{◌≡◌, ◌∙◌, refl, ap}
 use mathlib.Core.List.{List}
 use lib.ListN.{set}
@@ -7,7 +7,7 @@ use Rattle.theory.specs.Mesh.{at}
 use Rattle.theory.specs.Counting.{count}
 use Rattle.theory.proofs.Counting.{count-le}
 use Rattle.lists.specs.Marks.{marked, bit_of, RanksLent, RanksOf}
-use Rattle.lists.proofs.Tables.{Tabulating, tabulating-none, tabulating-more, tabulating-all}
+use Rattle.lists.proofs.Tables.{tabulating-none, tabulating-more, tabulating-all}
 use Rattle.lists.proofs.Marks.{count-marked}
 use Rattle.lists.proofs.ranks.Invariants.{Turn}
 use Rattle.lists.proofs.ranks.Goals as goal

@@ -1,16 +1,11 @@
 -- `lists::ranks` meets its contract. The loop's invariant: the ranks of the first i indices stand, and `count` is the
 -- next. The measure is what is left of n.
-use native.Mathlib.Omega.{arith}
-use Prim.Native.Nat.{ℕ, ◌+◌, ◌-◌, ◌≤◌, ◌<◌}
-use mathlib.Core.Path.{◌≡◌, ◌∙◌, refl, ap}
+use Prim.Native.Nat.{ℕ, ◌-◌}
+use mathlib.Core.Path.{◌≡◌}
 use mathlib.Core.List.{List}
-use lib.ListN.{set}
-use Rattle.theory.specs.Mesh.{at}
 use Rattle.theory.specs.Counting.{count}
-use Rattle.theory.proofs.Counting.{count-le}
-use Rattle.lists.specs.Marks.{marked, bit_of, RanksLent, RanksOf}
-use Rattle.lists.proofs.Tables.{Tabulating, tabulating-none, tabulating-more, tabulating-all}
-use Rattle.lists.proofs.Marks.{count-marked}
+use Rattle.lists.specs.Marks.{marked, RanksLent}
+use Rattle.lists.proofs.Tables.{Tabulating}
 use Rattle.lists.proofs.ranks.Given as goal
 
 pub record Turn (marks : List ℕ) (n : ℕ) (rank₀ rank : List ℕ) (total i : ℕ) : Type 0 where

@@ -1,7 +1,6 @@
 -- `lists::write_three` meets its contract: three stores one after the other are a run.
 use native.Mathlib.Omega.{arith}
 use lib.ListN.{length-set}
-use borrow.Author.Rules.{rules}
 use Rattle.lists.proofs.Stores.{three-stores}
 use Rattle.lists.proofs.write_three.Goals as goal
 

@@ -1,10 +1,7 @@
 use native.Mathlib.Omega.{arith}
-use Prim.Native.Nat.{◌-◌}
 use mathlib.Core.Path.{◌∙◌}
-use lib.Dec.{eqb}
-use Rattle.theory.specs.Mesh.{at}
 use Rattle.mesh_counts.proofs.Rings.{boundary-total}
-use Rattle.mesh_counts.proofs.Turns.{Turn, begun, turn-le, turn-fits, turned, finished}
+use Rattle.mesh_counts.proofs.Turns.{begun, turn-le, turn-fits, turned, finished}
 use Rattle.mesh_counts.proofs.count_boundary.Goals as goal
 
 pub loop-h-init : goal.loop-h-init

@@ -1,12 +1,9 @@
 -- `mesh_counts::count_boundary` meets its contract. The loop's invariant: of the half-edges before h so many lead to themselves.
 -- The measure is what is left of the half-edges.
-use native.Mathlib.Omega.{arith}
 use Prim.Native.Nat.{◌-◌}
-use mathlib.Core.Path.{◌∙◌}
 use lib.Dec.{eqb}
 use Rattle.theory.specs.Mesh.{at}
-use Rattle.mesh_counts.proofs.Rings.{boundary-total}
-use Rattle.mesh_counts.proofs.Turns.{Turn, begun, turn-le, turn-fits, turned, finished}
+use Rattle.mesh_counts.proofs.Turns.{Turn}
 use Rattle.mesh_counts.proofs.count_boundary.Given as goal
 
 abbrev pub invariant-loop-h : goal.invariant-loop-h

@@ -1,12 +1,9 @@
 -- `mesh_counts::count_edges` meets its contract. The loop's invariant: of the half-edges before h so many lead back.
 -- The measure is what is left of the half-edges.
-use native.Mathlib.Omega.{arith}
 use Prim.Native.Nat.{◌-◌}
-use mathlib.Core.Path.{◌∙◌}
 use lib.Dec.{leb}
 use Rattle.theory.specs.Mesh.{at}
-use Rattle.mesh_counts.proofs.Rings.{edges-total}
-use Rattle.mesh_counts.proofs.Turns.{Turn, begun, turn-le, turn-fits, turned, finished}
+use Rattle.mesh_counts.proofs.Turns.{Turn}
 use Rattle.mesh_counts.proofs.count_edges.Given as goal
 
 abbrev pub invariant-loop-h : goal.invariant-loop-h

@@ -1,4 +1,4 @@
-use Prim.Native.Nat.{ℕ, ◌+◌, ◌-◌, ◌*◌, ◌/◌, ◌≤◌, ◌<◌}
+use Prim.Native.Nat.{ℕ, ◌+◌, ◌*◌, ◌/◌, ◌≤◌, ◌<◌}
 use native.Mathlib.Omega.{arith}
 use mathlib.Core.Path.{◌≡◌, refl}
 use mathlib.Core.List.{List}
@@ -6,7 +6,6 @@ use borrow.Author.Count.{below_more}
 use Rattle.theory.specs.Mesh.{at}
 use Rattle.theory.specs.Refusals.{CornerNotBelow}
 use Rattle.lists.specs.Places.{Place}
-use Rattle.mesh_faults.specs.Faults.{Whole}
 use Rattle.mesh_faults.proofs.corner_not_below.Invariants.{Turn}
 use Rattle.mesh_faults.proofs.corner_not_below.Goals as goal
 

@@ -1,13 +1,8 @@
 -- `mesh_faults::corner_not_below` meets its contract. The loop's invariant: every corner before c is below
 -- `vertices`. The measure is what is left of the corners.
-use Prim.Native.Nat.{ℕ, ◌+◌, ◌-◌, ◌*◌, ◌/◌, ◌≤◌, ◌<◌}
-use native.Mathlib.Omega.{arith}
-use mathlib.Core.Path.{◌≡◌, refl}
+use Prim.Native.Nat.{ℕ, ◌-◌, ◌*◌, ◌≤◌, ◌<◌}
 use mathlib.Core.List.{List}
-use borrow.Author.Count.{below_more}
 use Rattle.theory.specs.Mesh.{at}
-use Rattle.theory.specs.Refusals.{CornerNotBelow}
-use Rattle.lists.specs.Places.{Place}
 use Rattle.mesh_faults.specs.Faults.{Whole}
 use Rattle.mesh_faults.proofs.corner_not_below.Given as goal
 

@@ -1,4 +1,4 @@
-use Prim.Native.Nat.{ℕ, ◌+◌, ◌-◌, ◌*◌, ◌/◌, ◌≤◌, ◌<◌}
+use Prim.Native.Nat.{ℕ, ◌+◌, ◌*◌, ◌/◌, ◌≤◌, ◌<◌}
 use native.Mathlib.Omega.{arith}
 use mathlib.Core.Path.{◌≡◌, ◌∙◌, refl, sym, ap}
 use mathlib.Core.Logic.{◌≢◌}
@@ -10,7 +10,7 @@ use Rattle.theory.specs.Mesh.{at}
 use Rattle.theory.specs.Refusals.{EqualCorners}
 use Rattle.lists.specs.Places.{Place}
 use Rattle.lists.proofs.Lists.{by-eq, by-lt}
-use Rattle.mesh_faults.specs.Faults.{Whole, TwoEqual, ab, bc, ca, HasEqual}
+use Rattle.mesh_faults.specs.Faults.{TwoEqual, ab, bc, ca, HasEqual}
 use Rattle.mesh_faults.proofs.equal_corners.Invariants.{Turn}
 use Rattle.mesh_faults.proofs.equal_corners.Goals as goal
 

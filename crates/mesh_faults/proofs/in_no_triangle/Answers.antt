@@ -4,7 +4,6 @@ use native.Mathlib.Omega.{arith}
 use mathlib.Core.Path.{◌≡◌, refl}
 use mathlib.Core.List.{List, ◌++◌}
 use lib.ListN.{drop, replicate}
-use borrow.Author.Rules.{rules}
 use Rattle.theory.specs.Mesh.{at}
 use Rattle.theory.specs.Refusals.{InNoTriangle}
 use Rattle.lists.specs.Places.{Place}

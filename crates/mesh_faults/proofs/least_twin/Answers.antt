@@ -1,12 +1,10 @@
-use Prim.Native.Nat.{ℕ, ◌+◌, ◌-◌, ◌≤◌, ◌<◌}
+use Prim.Native.Nat.{ℕ, ◌+◌, ◌≤◌, ◌<◌}
 use native.Mathlib.Omega.{arith}
 use mathlib.Core.Path.{◌≡◌, refl, sym, ◌∙◌}
-use mathlib.Core.Logic.{◌≢◌}
 use mathlib.Core.List.{List}
 use lib.ListN.{length}
 use Rattle.theory.specs.Mesh.{at}
-use Rattle.mesh_rings.specs.Ring.{RingBy}
-use Rattle.mesh_faults.specs.Twins.{TwinRoom, TwinsLent, TwinFound, LeastBefore, TwinLent, TwinMet}
+use Rattle.mesh_faults.specs.Twins.{TwinsLent, TwinFound, TwinLent, TwinMet}
 use Rattle.mesh_faults.proofs.Search.{least-none, least-all}
 use Rattle.mesh_faults.proofs.least_twin.Invariants.{Turn}
 use Rattle.mesh_faults.proofs.least_twin.Goals as goal

@@ -1,15 +1,13 @@
 -- `mesh_faults::least_twin` meets its contract. The loop's invariant: the edges that end before h are looked at, and no
 -- stamp is from h up, but n. The measure is what is left of the half-edges.
-use Prim.Native.Nat.{ℕ, ◌+◌, ◌-◌, ◌≤◌, ◌<◌}
-use native.Mathlib.Omega.{arith}
-use mathlib.Core.Path.{◌≡◌, refl, sym, ◌∙◌}
+use Prim.Native.Nat.{ℕ, ◌-◌, ◌≤◌, ◌<◌}
+use mathlib.Core.Path.{◌≡◌}
 use mathlib.Core.Logic.{◌≢◌}
 use mathlib.Core.List.{List}
 use lib.ListN.{length}
 use Rattle.theory.specs.Mesh.{at}
 use Rattle.mesh_rings.specs.Ring.{RingBy}
-use Rattle.mesh_faults.specs.Twins.{TwinRoom, TwinsLent, TwinFound, LeastBefore, TwinLent, TwinMet}
-use Rattle.mesh_faults.proofs.Search.{least-none, least-all}
+use Rattle.mesh_faults.specs.Twins.{TwinRoom, LeastBefore}
 use Rattle.mesh_faults.proofs.least_twin.Given as goal
 
 pub record Turn (n : ℕ) (ring thirds stamp₀ stamp : List ℕ) (least h : ℕ) : Type 0 where

@@ -1,5 +1,5 @@
 use native.Mathlib.Omega.{arith}
-use Prim.Native.Nat.{ℕ, ◌+◌, ◌-◌, ◌≤◌, ◌<◌}
+use Prim.Native.Nat.{ℕ, ◌+◌, ◌≤◌, ◌<◌}
 use mathlib.Core.Path.{◌≡◌, ◌∙◌, refl, sym, ap}
 use mathlib.Core.Logic.{◌≢◌}
 use mathlib.Core.List.{List}
@@ -11,7 +11,7 @@ use Rattle.theory.proofs.Counting.{count-le}
 use Rattle.theory.proofs.Splitting.{first_on-le}
 use Rattle.lists.proofs.Lists.{by-eq, at_set}
 use Rattle.mesh_rings.specs.Ring.{FollowsBy, RingBy}
-use Rattle.split.specs.Numbers.{NumberLent, Numbered, UnnumberedLent, OneLent, OneNumbered, next, same}
+use Rattle.split.specs.Numbers.{Numbered, UnnumberedLent, OneLent, OneNumbered, next, same}
 use Rattle.split.proofs.Numbering.{edge_no-first, edge_no-own, edge_no-given, first_on-own, counted, uncounted}
 use Rattle.split.proofs.Numbering.{edges-all, follows_next}
 use Rattle.split.proofs.number_all.Invariants.{Handed, Turn}

@@ -1,22 +1,15 @@
 -- `split::number_all` meets its contract. The loop's invariant, for every list that the rings are those of: of the
 -- edges that appear before h, all half-edges below h have the edge's number, and so has the next one; the first
 -- half-edge of any other edge has none. The measure is what is left of the half-edges.
-use native.Mathlib.Omega.{arith}
 use Prim.Native.Nat.{ℕ, ◌+◌, ◌-◌, ◌≤◌, ◌<◌}
-use mathlib.Core.Path.{◌≡◌, ◌∙◌, refl, sym, ap}
-use mathlib.Core.Logic.{◌≢◌}
+use mathlib.Core.Path.{◌≡◌}
 use mathlib.Core.List.{List}
-use lib.ListN.{length, length-set, set}
+use lib.ListN.{length}
 use Rattle.theory.specs.Mesh.{at}
 use Rattle.theory.specs.Counting.{count}
 use Rattle.theory.specs.Splitting.{first_on, is_first, edge_no}
-use Rattle.theory.proofs.Counting.{count-le}
-use Rattle.theory.proofs.Splitting.{first_on-le}
-use Rattle.lists.proofs.Lists.{by-eq, at_set}
-use Rattle.mesh_rings.specs.Ring.{FollowsBy, RingBy}
-use Rattle.split.specs.Numbers.{NumberLent, Numbered, UnnumberedLent, OneLent, OneNumbered, next, same}
-use Rattle.split.proofs.Numbering.{edge_no-first, edge_no-own, edge_no-given, first_on-own, counted, uncounted}
-use Rattle.split.proofs.Numbering.{edges-all, follows_next}
+use Rattle.mesh_rings.specs.Ring.{RingBy}
+use Rattle.split.specs.Numbers.{NumberLent}
 use Rattle.split.proofs.number_all.Given as goal
 
 -- Of the edges of T that appear before h, half-edge g has the number if it is below h or the next on its edge from h

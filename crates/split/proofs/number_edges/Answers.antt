@@ -2,7 +2,6 @@
 use Prim.Native.Nat.{ℕ, ◌+◌}
 use mathlib.Core.List.{List, ◌++◌}
 use lib.ListN.{drop, replicate}
-use borrow.Author.Rules.{rules}
 use Rattle.lists.proofs.Lists.{at-filled, length-filled}
 use Rattle.split.specs.Numbers.{NumberLent, UnnumberedLent}
 use Rattle.split.proofs.number_edges.Goals as goal

@@ -5,7 +5,6 @@ use mathlib.Core.Path.{◌≡◌, ◌∙◌, refl}
 use mathlib.Core.List.{List, [], ◌∷◌, ◌++◌}
 use lib.ListN.{length, length-append}
 use lib.Seq.{sets}
-use borrow.Author.Rules.{rules}
 use Rattle.theory.specs.Mesh.{at}
 use Rattle.split.specs.Fours.{four_of}
 use Rattle.lists.proofs.Stores.{sets-append}

@@ -1,20 +1,13 @@
 -- `split::write_fours` meets its contract. The loop's invariant: for every N whose edge vertices' numbers are those of
 -- the table, the list begins with the fours of the first k triangles, and the rest is as it was. The measure is what
 -- is left of the triangles.
-use native.Mathlib.Omega.{arith}
-use native.Mathlib.Numerals.{add-one}
-use Prim.Native.Nat.{ℕ, ◌+◌, ◌-◌, ◌*◌, ◌≤◌, ◌<◌}
-use mathlib.Core.Path.{◌≡◌, ◌∙◌, refl, ap}
+use Prim.Native.Nat.{ℕ, ◌-◌, ◌*◌, ◌≤◌}
+use mathlib.Core.Path.{◌≡◌}
 use mathlib.Core.List.{List, ◌++◌}
-use lib.ListN.{length, length-append, length-drop, drop}
-use lib.Seq.{sets, length-sets}
-use Rattle.theory.specs.Calls.{written}
-use Rattle.theory.specs.Mesh.{triangles}
-use Rattle.theory.specs.Splitting.{edge_no, four, fours, split}
-use Rattle.theory.proofs.Splitting.{split-length}
+use lib.ListN.{length, drop}
+use Rattle.theory.specs.Splitting.{edge_no, fours}
 use Rattle.lists.specs.Tables.{Tabulated}
-use Rattle.split.specs.Fours.{FoursLent, FourLent, four_of}
-use Rattle.lists.proofs.Stores.{sets-front}
+use Rattle.split.specs.Fours.{FoursLent}
 use Rattle.split.proofs.write_fours.Given as goal
 
 pub record Turn (T : List ℕ) (F : ℕ) (numbers out₀ out : List ℕ) (k : ℕ) : Type 0 where

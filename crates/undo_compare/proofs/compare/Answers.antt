@@ -1,20 +1,16 @@
-use Prim.Native.Nat.{ℕ, ◌+◌, ◌-◌, ◌*◌, ◌/◌, ◌≤◌, ◌<◌}
+use Prim.Native.Nat.{ℕ, ◌+◌, ◌*◌, ◌/◌, ◌≤◌, ◌<◌}
 use native.Mathlib.Omega.{arith}
 use mathlib.Core.Path.{◌≡◌, sym, ◌∙◌, subst, refl}
-use mathlib.Core.Logic.{◌≢◌, inl, inr}
-use mathlib.Core.List.{List, [], ◌∷◌}
+use mathlib.Core.Logic.{◌≢◌}
+use mathlib.Core.List.{List}
 use lib.ListN.{length}
-use types.Run.{OneOf}
-use denote.Enum.Declared.{tag_of}
-use borrow.Author.Rules.{rules}
 use Rattle.theory.specs.Mesh.{at}
 use Rattle.theory.specs.Reading.{renamed}
-use Rattle.undo_compare.specs.Compared.{CompareLent, Compared, turned_with, OneLent, ComparedOne}
+use Rattle.undo_compare.specs.Compared.{Compared, turned_with, OneLent, ComparedOne}
 use Rattle.undo_compare.specs.declared.Comparison.TheVariants as comparison
 use Rattle.undo_compare.specs.declared.Turning.{Turning}
 use Rattle.undo_compare.specs.declared.Turning.TheVariants as turning
 use Rattle.undo_compare.proofs.Comparisons.{SameBefore, none, Alike, same_more, none-turned, one-turned}
-use Rattle.undo_compare.specs.contracts.Turning as declared
 use Rattle.undo_compare.proofs.compare.Invariants.{Turn}
 use Rattle.undo_compare.proofs.compare.Goals as goal
 

@@ -1,22 +1,9 @@
 -- `undo_compare::compare` meets its contract. The loop's invariant: the triangles before k have the vertices of
 -- their own, and the least of them that is no rotation is known. The measure is what is left of the triangles.
-use Prim.Native.Nat.{ℕ, ◌+◌, ◌-◌, ◌*◌, ◌/◌, ◌≤◌, ◌<◌}
-use native.Mathlib.Omega.{arith}
-use mathlib.Core.Path.{◌≡◌, sym, ◌∙◌, subst}
-use mathlib.Core.Logic.{◌≢◌, inl, inr}
-use mathlib.Core.List.{List, [], ◌∷◌}
-use lib.ListN.{length}
-use types.Run.{OneOf}
-use denote.Enum.Declared.{tag_of}
-use borrow.Author.Rules.{rules}
-use Rattle.theory.specs.Mesh.{at}
-use Rattle.theory.specs.Reading.{renamed}
-use Rattle.undo_compare.specs.Compared.{CompareLent, Compared, turned_with, OneLent, ComparedOne}
-use Rattle.undo_compare.specs.declared.Comparison.TheVariants as comparison
-use Rattle.undo_compare.specs.declared.Turning.{Turning}
-use Rattle.undo_compare.specs.declared.Turning.TheVariants as turning
-use Rattle.undo_compare.proofs.Comparisons.{SameBefore, none, Alike, same_more, none-turned, one-turned}
-use Rattle.undo_compare.specs.contracts.Turning as declared
+use Prim.Native.Nat.{ℕ, ◌-◌, ◌≤◌}
+use mathlib.Core.List.{List}
+use Rattle.undo_compare.specs.Compared.{CompareLent}
+use Rattle.undo_compare.proofs.Comparisons.{SameBefore}
 use Rattle.undo_compare.proofs.compare.Given as goal
 
 pub record Turn (F : ℕ) (T f g S : List ℕ) (turned k : ℕ) : Type 0 where

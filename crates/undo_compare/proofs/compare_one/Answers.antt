@@ -5,7 +5,6 @@ use native.Mathlib.Omega.{arith}
 use mathlib.Core.Path.{◌≡◌}
 use mathlib.Core.List.{List}
 use lib.ListN.{length}
-use borrow.Author.Rules.{rules}
 use Rattle.theory.specs.Mesh.{at}
 use Rattle.theory.specs.Reading.{renamed}
 use Rattle.theory.proofs.Renaming.{renamed-at, renamed-length}

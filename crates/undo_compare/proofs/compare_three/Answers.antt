@@ -1,5 +1,4 @@
 -- `undo_compare::compare_three` meets its contract: the two tests tell how the vertices compare.
-use borrow.Author.Rules.{rules}
 use Rattle.lists.proofs.Decides.{decided-not}
 use Rattle.undo_compare.specs.Compared.{ComparedThree}
 use Rattle.undo_compare.proofs.compare_three.Goals as goal

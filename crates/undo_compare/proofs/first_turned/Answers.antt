@@ -2,15 +2,9 @@
 use native.Mathlib.Omega.{arith}
 use Prim.Native.Nat.{ℕ, min}
 use mathlib.Core.Path.{◌≡◌, refl, sym, ap, ◌∙◌}
-use mathlib.Core.Logic.{inl, inr}
-use mathlib.Core.List.{[], ◌∷◌}
-use types.Run.{OneOf}
-use denote.Enum.Declared.{tag_of}
-use borrow.Author.Rules.{rules}
 use Rattle.undo_compare.specs.Compared.{turned_with}
 use Rattle.undo_compare.specs.declared.Turning.{Turning}
 use Rattle.undo_compare.specs.declared.Turning.TheVariants as turning
-use Rattle.undo_compare.specs.contracts.Turning as declared
 use Rattle.undo_compare.proofs.first_turned.Goals as goal
 
 -- what was found before stays, if triangle k is not the other way round

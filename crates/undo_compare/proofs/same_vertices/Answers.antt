@@ -4,7 +4,6 @@ use Prim.Native.Nat.{ℕ}
 use native.Mathlib.Omega.{arith}
 use mathlib.Core.Path.{◌≡◌, refl}
 use mathlib.Core.Bool.{Bool, false}
-use borrow.Author.Rules.{rules}
 use Rattle.lists.specs.Decides.{Decides}
 use Rattle.undo_compare.specs.Compared.{Apart, RotatedThree, SameThree}
 use Rattle.lists.proofs.Decides.{decides-moved, decided-not}

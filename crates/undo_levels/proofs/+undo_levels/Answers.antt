@@ -8,7 +8,7 @@ use Rattle.answers.specs.declared.taken.Taken.{Taken}
 use Rattle.answers.specs.declared.taken.Taken.TheVariants as taken
 use Rattle.answers.proofs.Arms.{no-reading}
 use Rattle.undo_level.specs.Level.{LevelTried}
-use Rattle.undo_levels.proofs.Levels.{levels-stop, levels-level, levels-reached, levels-stopped}
+use Rattle.undo_levels.proofs.Levels.{levels-level, levels-reached, levels-stopped}
 use Rattle.undo_levels.proofs.Levels.{tried-coarser, levels-kept, levels-lent, levels-more, levels-undone}
 use Rattle.undo_levels.proofs.+undo_levels.Goals as goal
 

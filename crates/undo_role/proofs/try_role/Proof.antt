@@ -3,7 +3,6 @@
 use native.Mathlib.Omega.{arith}
 use mathlib.Core.Path.{refl}
 use borrow.Author.Rules.{rules}
-use borrow.Author.Tests.{not-true, not-false}
 use Rattle.undo_role.specs.Buffers.{Buffers, buffers, Rooms}
 use Rattle.undo_role.specs.Tried.{found, inside_out, none}
 use Rattle.undo_role.proofs.Rooms.{SameLengths, kept_on, rooms-kept}

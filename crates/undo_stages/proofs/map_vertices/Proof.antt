@@ -1,7 +1,6 @@
 -- `undo_stages::map_vertices` meets its contract: each selected corner is a corner of the list, so it can be a key of
 -- the map, whose length stays.
 use mathlib.Core.Path.{◌∙◌}
-use borrow.Author.Tests.{not-true, not-false}
 use borrow.Author.Rules.{rules}
 use Rattle.undo_stages.proofs.Mapped.{kept-lent, corners-lent, vertices-refused, vertices-held}
 use Rattle.undo_stages.proofs.map_vertices.Statement.{statement}

@@ -99,13 +99,13 @@ shape_of-table-then-kept_count-edges c = table-length (selecting c.before.before
 
 returns-then-kept_count-edges : tie.Need-returns-then-kept_count-edges
 returns-then-kept_count-edges c = record {
-      vertices = _;
-      edges = _;
-      ring_c = _;
-      tables = made (selecting c.before.before.before);
-      numbered = c.number_edges-edges.ensures;
-      answers = odd c.if-kept_count-edges.true;
-    }
+  vertices = _;
+  edges = _;
+  ring_c = _;
+  tables = made (selecting c.before.before.before);
+  numbered = c.number_edges-edges.ensures;
+  answers = odd c.if-kept_count-edges.true;
+}
 
 shape_of-coarse : tie.Need-shape_of-coarse
 shape_of-coarse c = search rules
@@ -121,13 +121,13 @@ shape_of-table c = table-length (selecting c.before.before.before)
 
 returns : tie.Need-returns
 returns c = record {
-      vertices = _;
-      edges = _;
-      ring_c = _;
-      tables = made (selecting c.before.before.before);
-      numbered = c.number_edges-edges.ensures;
-      answers = even c.if-kept_count-edges.false;
-    }
+  vertices = _;
+  edges = _;
+  ring_c = _;
+  tables = made (selecting c.before.before.before);
+  numbered = c.number_edges-edges.ensures;
+  answers = even c.if-kept_count-edges.false;
+}
 
 pub number_tiles_spec : {M : Type 1} → statement M
 number_tiles_spec =

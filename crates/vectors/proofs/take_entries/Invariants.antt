@@ -1,6 +1,6 @@
 -- `vectors::take_entries` meets its contract.
 -- The invariant: the list keeps its length. The measure is what is left to be taken.
-use Rattle.std.proofs.Common.{◌≡◌, ◌-◌, length, length-set, rules}
+use Rattle.std.proofs.Common.{◌≡◌, ◌-◌, length}
 use Rattle.vectors.proofs.take_entries.Given as goal
 
 abbrev pub invariant-loop-i : goal.invariant-loop-i

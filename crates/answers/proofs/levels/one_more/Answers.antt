@@ -3,7 +3,6 @@ use native.Mathlib.Omega.{arith}
 use Prim.Native.Nat.{ℕ, ◌+◌}
 use mathlib.Core.Path.{ap}
 use mathlib.Core.List.{List, ◌∷◌}
-use borrow.Author.Rules.{rules}
 use Rattle.answers.specs.declared.levels.Levels.{Levels}
 use Rattle.answers.proofs.Places.{first-six}
 use Rattle.answers.proofs.levels.one_more.Goals as goal

@@ -1,7 +1,6 @@
 -- `answers::taken::answer_taken` meets its contract: each arm is a case of the answer.
 use native.Mathlib.Omega.{arith}
 use mathlib.Core.Path.{◌∙◌, sym, ap}
-use borrow.Author.Rules.{rules}
 use Rattle.answers.specs.Taken.{kept_of, answer_to_reading, answer_to}
 use Rattle.answers.proofs.taken.answer_taken.Goals as goal
 

@@ -1,14 +1,7 @@
 -- `answers::taken::earlier` meets its contract: what is remembered stays, unless it is nothing.
-use native.Mathlib.Omega.{arith}
 use mathlib.Core.Path.{◌≡◌, refl, sym, ap}
-use mathlib.Core.Logic.{inl, inr}
-use mathlib.Core.List.{[], ◌∷◌}
-use types.Run.{OneOf}
-use denote.Enum.Declared.{tag_of}
-use borrow.Author.Rules.{rules}
 use Rattle.answers.specs.declared.taken.Taken.{Taken}
 use Rattle.answers.specs.declared.taken.Taken.TheVariants as taken
-use Rattle.answers.specs.contracts.taken.Taken as declared
 use Rattle.answers.specs.Taken.{earlier_of}
 use Rattle.answers.proofs.taken.earlier.Goals as goal
 

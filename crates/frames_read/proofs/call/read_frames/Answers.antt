@@ -1,5 +1,4 @@
 -- `frames_read::call::read_frames` meets its contract: each answer is made of what `read` says.
-use borrow.Author.Rules.{rules}
 use Rattle.frames_read.proofs.Verdicts.{answered}
 use Rattle.frames_read.proofs.call.read_frames.Goals as goal
 

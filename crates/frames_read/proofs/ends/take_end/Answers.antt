@@ -1,7 +1,6 @@
 -- `frames_read::ends::take_end` meets its contract: LF, or after a CR what `take_lf` takes.
 use native.Mathlib.Omega.{arith}
 use mathlib.Core.Path.{◌∙◌, sym}
-use borrow.Author.Rules.{rules}
 use Rattle.frames_read.proofs.Takes.{take_lf-wrong, take_lf-here, take_end-no-CR, take_end-CR}
 use Rattle.frames_read.proofs.ends.take_end.Goals as goal
 

@@ -1,6 +1,5 @@
 -- `frames_read::ends::take_lf` meets its contract: the test is the one that `take_lf` makes.
 use mathlib.Core.Path.{sym}
-use borrow.Author.Rules.{rules}
 use Rattle.frames_read.proofs.Takes.{take_lf-missing, take_lf-wrong, take_lf-here}
 use Rattle.frames_read.proofs.ends.take_lf.Goals as goal
 

@@ -1,7 +1,6 @@
 -- `frames_read::numbers::take_kind` meets its contract: the two digits are those of the kind, or it is another kind.
 use native.Mathlib.Omega.{arith}
 use mathlib.Core.Path.{sym}
-use borrow.Author.Rules.{rules}
 use Rattle.frames_read.proofs.Takes.{kind-other-first, kind-other-second, kind-here}
 use Rattle.frames_read.proofs.numbers.take_kind.Goals as goal
 

@@ -5,8 +5,6 @@ use mathlib.Core.Path.{◌≡◌, refl, sym}
 use mathlib.Core.Bool.{Bool, true, false}
 use mathlib.Core.List.{List, [], ◌∷◌}
 use lib.Seq.{sets}
-use borrow.Author.Rules.{rules}
-use borrow.Author.Tests.{not-true, not-false}
 use Rattle.frames_read.specs.Judging.{CornersPut}
 use Rattle.frames_read.proofs.reading.put_corners.Goals as goal
 

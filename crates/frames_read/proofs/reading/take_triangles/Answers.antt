@@ -1,18 +1,17 @@
 use native.Mathlib.Omega.{arith}
-use Prim.Native.Nat.{ℕ, ◌+◌, ◌-◌, ◌*◌, ◌≤◌, ◌<◌}
+use Prim.Native.Nat.{ℕ, ◌+◌, ◌*◌, ◌≤◌, ◌<◌}
 use mathlib.Core.Path.{◌≡◌, ◌∙◌, refl, sym, ap}
 use mathlib.Core.Bool.{Bool, true, false}
 use mathlib.Core.Option.{none, some}
 use mathlib.Core.List.{List, [], ◌∷◌, ◌++◌}
 use lib.ListN.{length, length-append, drop}
 use lib.Seq.{length-sets}
-use borrow.Author.Rules.{rules}
 use Rattle.theory.specs.Frames.{take_line, wrong_line, take_triangles}
 use Rattle.lists.proofs.Stores.{sets-front}
 use Rattle.frames_read.specs.Given.{triangle_given}
 use Rattle.frames_read.specs.Judging.{CornersPut, TrianglesLent, right, wrong, TrianglesTaken}
 use Rattle.frames_read.specs.declared.reading.Verdict.TheVariants.{Mesh, Refused}
-use Rattle.frames_read.proofs.Triangles.{whole-taken, refused-not-taken, Reached, reached-none, reached-more}
+use Rattle.frames_read.proofs.Triangles.{whole-taken, refused-not-taken, reached-none, reached-more}
 use Rattle.frames_read.proofs.Triangles.{reached-wrong, reached-behind, reached-end, reached-right}
 use Rattle.frames_read.proofs.reading.take_triangles.Invariants.{Turn}
 use Rattle.frames_read.proofs.reading.take_triangles.Goals as goal

@@ -5,7 +5,6 @@ use native.Mathlib.Omega.{arith}
 use mathlib.Core.Path.{◌≡◌, refl}
 use mathlib.Core.List.{List}
 use lib.ListN.{length}
-use borrow.Author.Rules.{rules}
 use Rattle.theory.specs.Mesh.{triangles}
 use Rattle.theory.specs.Refusals.{Passed}
 use Rattle.theory.specs.Frames.{write_rules, refuses, accepts}

@@ -1,6 +1,5 @@
 -- `frames_write::digits::digit_byte` meets its contract: the test is the one that `digit` makes.
 use native.Mathlib.Omega.{arith}
-use borrow.Author.Rules.{rules}
 use Rattle.theory.proofs.Frames.{digit_low, digit-high}
 use Rattle.frames_write.proofs.digits.digit_byte.Goals as goal
 

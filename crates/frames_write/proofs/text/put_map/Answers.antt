@@ -1,10 +1,4 @@
-use native.Mathlib.Omega.{arith}
-use Prim.Native.Nat.{◌-◌, ◌≤◌}
-use lib.ListN.{length, take}
-use Rattle.theory.specs.Mesh as mesh
-use Rattle.theory.specs.Frames.{four_digits, line}
-use Rattle.theory.specs.Program.{map_lines}
-use Rattle.frames_write.proofs.Appends.{RowPut, put-length, row-begun, row_room, row_more, row_done, map_lines-row}
+use Rattle.frames_write.proofs.Appends.{put-length, row-begun, row_room, row_more, row_done, map_lines-row}
 use Rattle.frames_write.proofs.text.put_map.Goals as goal
 
 pub loop-k-init : goal.loop-k-init

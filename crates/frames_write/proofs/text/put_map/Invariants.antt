@@ -1,12 +1,11 @@
 -- `frames_write::text::put_map` meets its contract. The invariant: the lines of the first k entries are put. The measure is
 -- what is left of the entries.
-use native.Mathlib.Omega.{arith}
 use Prim.Native.Nat.{◌-◌, ◌≤◌}
 use lib.ListN.{length, take}
 use Rattle.theory.specs.Mesh as mesh
 use Rattle.theory.specs.Frames.{four_digits, line}
 use Rattle.theory.specs.Program.{map_lines}
-use Rattle.frames_write.proofs.Appends.{RowPut, put-length, row-begun, row_room, row_more, row_done, map_lines-row}
+use Rattle.frames_write.proofs.Appends.{RowPut}
 use Rattle.frames_write.proofs.text.put_map.Given as goal
 
 abbrev pub invariant-loop-k : goal.invariant-loop-k

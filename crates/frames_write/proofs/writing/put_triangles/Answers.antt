@@ -1,8 +1,5 @@
 use native.Mathlib.Omega.{arith}
-use Prim.Native.Nat.{◌*◌, ◌-◌, ◌≤◌}
-use lib.ListN.{length}
-use Rattle.theory.specs.Frames.{triangle_line, triangle_lines}
-use Rattle.frames_write.proofs.Appends.{RowPut, put-length, row-begun, row_room, row_more, row_done}
+use Rattle.frames_write.proofs.Appends.{put-length, row-begun, row_room, row_more, row_done}
 use Rattle.frames_write.proofs.Appends.{triangle_lines-row}
 use Rattle.frames_write.proofs.writing.put_triangles.Goals as goal
 

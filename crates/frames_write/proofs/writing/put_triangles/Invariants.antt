@@ -1,11 +1,9 @@
 -- `frames_write::writing::put_triangles` meets its contract. The invariant: the lines of the first k triangles are put. The
 -- measure is what is left of the triangles.
-use native.Mathlib.Omega.{arith}
 use Prim.Native.Nat.{◌*◌, ◌-◌, ◌≤◌}
 use lib.ListN.{length}
 use Rattle.theory.specs.Frames.{triangle_line, triangle_lines}
-use Rattle.frames_write.proofs.Appends.{RowPut, put-length, row-begun, row_room, row_more, row_done}
-use Rattle.frames_write.proofs.Appends.{triangle_lines-row}
+use Rattle.frames_write.proofs.Appends.{RowPut}
 use Rattle.frames_write.proofs.writing.put_triangles.Given as goal
 
 abbrev pub invariant-loop-k : goal.invariant-loop-k

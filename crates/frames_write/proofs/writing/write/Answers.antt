@@ -5,7 +5,6 @@ use mathlib.Core.Path.{◌≡◌}
 use mathlib.Core.List.{List}
 use lib.ListN.{length, take}
 use lib.Seq.{take_all}
-use borrow.Author.Rules.{rules}
 use Rattle.theory.specs.Mesh.{triangles}
 use Rattle.theory.specs.Frames.{frames}
 use Rattle.theory.proofs.Frames.{frames-length}

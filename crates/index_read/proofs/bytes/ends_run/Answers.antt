@@ -1,5 +1,4 @@
 -- `index_read::bytes::ends_run` meets its contract: the two tests are those of `ends_run`.
-use borrow.Author.Rules.{rules}
 use Rattle.theory.specs.Index.{comment_start}
 use Rattle.index_read.specs.Bytes.{ends_run}
 use Rattle.index_read.proofs.bytes.ends_run.Goals as goal

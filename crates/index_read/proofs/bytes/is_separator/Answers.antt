@@ -1,6 +1,5 @@
 -- `index_read::bytes::is_separator` meets its contract: its tests, one after the other, are those of `separator`.
 use native.Mathlib.Omega.{arith}
-use mathlib.Core.Path.{◌∙◌}
 use borrow.Author.Tests.{ne_eqb}
 use Rattle.theory.specs.Index.{separator}
 use Rattle.std.proofs.lemmas.Grind.{common_steps}

@@ -1,6 +1,5 @@
 -- `index_read::call::read_index` meets its contract: each answer is made of the verdict on the text.
 use mathlib.Core.Path.{refl}
-use borrow.Author.Rules.{rules}
 use Rattle.theory.specs.Index.{refuses}
 use Rattle.theory.proofs.IndexDemands.{fault-refused}
 use Rattle.index_read.proofs.Verdicts.{judged-right, judged-fault}

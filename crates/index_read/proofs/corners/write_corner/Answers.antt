@@ -2,17 +2,12 @@
 use native.Mathlib.Omega.{arith}
 use Prim.Native.Nat.{ℕ, ◌<◌}
 use mathlib.Core.Path.{◌≡◌, refl}
-use mathlib.Core.Logic.{inl, inr}
-use mathlib.Core.List.{List, [], ◌∷◌}
+use mathlib.Core.List.{List}
 use lib.ListN.{length, set}
-use types.Run.{OneOf}
-use denote.Enum.Declared.{tag_of}
-use borrow.Author.Rules.{rules}
 use Rattle.theory.specs.Index.{corners_said}
 use Rattle.index_read.specs.Faces.{CornerLent, corner_written}
 use Rattle.index_read.specs.declared.runs.Run.{Run}
 use Rattle.index_read.specs.declared.runs.Run.TheVariants as run
-use Rattle.index_read.specs.contracts.runs.Run as declared
 use Rattle.index_read.proofs.corners.write_corner.Goals as goal
 
 module _ (out : List ℕ) (k : ℕ) where

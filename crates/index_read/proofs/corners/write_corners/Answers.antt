@@ -1,11 +1,10 @@
 use native.Mathlib.Nat.{zero-add}
 use native.Mathlib.Omega.{arith}
-use Prim.Native.Nat.{ℕ, ◌+◌, ◌-◌, ◌≤◌}
+use Prim.Native.Nat.{ℕ, ◌+◌, ◌≤◌}
 use mathlib.Core.Path.{◌≡◌, ◌∙◌, refl, ap}
 use mathlib.Core.List.{List, [], ◌++◌}
 use lib.ListN.{length}
-use lib.Seq.{sets, sets-eq, length-sets}
-use borrow.Author.Rules.{rules}
+use lib.Seq.{sets-eq, length-sets}
 use Rattle.theory.specs.Calls.{written}
 use Rattle.theory.specs.Index.{corners_said}
 use Rattle.lists.proofs.Stores.{sets-append}
@@ -14,7 +13,7 @@ use Rattle.index_read.specs.Faces.{CornerLent, corner_written, CornersLent, Corn
 use Rattle.index_read.specs.declared.runs.Run.{Run}
 use Rattle.index_read.specs.declared.faces.Step.{Step}
 use Rattle.index_read.specs.declared.faces.Step.TheVariants as step
-use Rattle.index_read.proofs.Walks.{Walk, walk-begun, walk-lent, walk-fits, Met, met, met-fault, met-end, met-few}
+use Rattle.index_read.proofs.Walks.{walk-begun, walk-lent, walk-fits, Met, met, met-fault, met-end, met-few}
 use Rattle.index_read.proofs.Walks.{met_less, met_turned, walk-list}
 use Rattle.index_read.proofs.corners.write_corners.Invariants.{Turn}
 use Rattle.index_read.proofs.corners.write_corners.Goals as goal

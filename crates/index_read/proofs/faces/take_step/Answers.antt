@@ -1,6 +1,5 @@
 -- `index_read::faces::take_step` meets its contract: each arm is a case of what a run says.
 use native.Mathlib.Omega.{arith}
-use borrow.Author.Rules.{rules}
 use Rattle.index_read.specs.Faces.{right, at_fault}
 use Rattle.index_read.proofs.Walks.{corner-right, close-right, corner-fault, close-fault, wrong-fault}
 use Rattle.index_read.proofs.faces.take_step.Goals as goal

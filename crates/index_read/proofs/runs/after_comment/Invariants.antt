@@ -1,19 +1,11 @@
 -- `index_read::runs::after_comment` meets its contract. The invariant: the runs from the start on are those from the
 -- place on, which is in the comment. The measure is the number of bytes left.
-use native.Mathlib.Omega.{arith}
-use Prim.Native.Nat.{ℕ, suc, ◌+◌, ◌-◌, ◌≤◌, ◌<◌}
-use native.Mathlib.Numerals.{add-one}
-use mathlib.Core.Path.{◌≡◌, sym, ◌∙◌}
+use Prim.Native.Nat.{ℕ, ◌-◌, ◌≤◌, ◌<◌}
+use mathlib.Core.Path.{◌≡◌}
 use mathlib.Core.Bool.{true, false}
 use mathlib.Core.List.{List}
-use lib.ListN.{length, drop, drop_of_length-le}
-use borrow.Author.Rules.{rules}
-use Rattle.theory.specs.Mesh as mesh
-use Rattle.theory.specs.Index.{line_end, runs}
-use Rattle.lists.proofs.Lists.{drop-inside}
-use Rattle.index_read.specs.Runs.{CommentLent, CommentPassed}
-use Rattle.index_read.proofs.Stretches.{comment-inside, comment-byte, runs-commented, runs-in-comment}
-use Rattle.index_read.proofs.Stretches.{runs-line-end}
+use lib.ListN.{length, drop}
+use Rattle.theory.specs.Index.{runs}
 use Rattle.index_read.proofs.runs.after_comment.Given as goal
 
 pub record Turn (text : List ℕ) (from at : ℕ) : Type 0 where

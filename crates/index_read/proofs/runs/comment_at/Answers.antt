@@ -1,6 +1,5 @@
 -- `index_read::runs::comment_at` meets its contract: the tests are those of `comment_at`.
 use mathlib.Core.Path.{sym, ◌∙◌}
-use borrow.Author.Rules.{rules}
 use borrow.Author.Tests.{le-ltb}
 use Rattle.theory.specs.Index.{comment_start}
 use Rattle.index_read.specs.Runs.{comment_at}

@@ -2,7 +2,6 @@
 use mathlib.Core.Path.{sym, ◌∙◌}
 use borrow.Author.Tests.{le-ltb}
 use Rattle.index_read.specs.Runs.{digit_at}
-use borrow.Author.Rules.{rules}
 use Rattle.index_read.proofs.Stretches.{test-inside, test-outside}
 use Rattle.index_read.proofs.runs.digit_at.Goals as goal
 

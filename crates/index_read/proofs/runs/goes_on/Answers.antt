@@ -3,7 +3,6 @@ use mathlib.Core.Path.{sym, ap, ◌∙◌}
 use mathlib.Core.Bool.{not}
 use borrow.Author.Tests.{le-ltb}
 use Rattle.index_read.specs.Runs.{goes_on}
-use borrow.Author.Rules.{rules}
 use Rattle.index_read.proofs.Stretches.{test-inside, test-outside}
 use Rattle.index_read.proofs.runs.goes_on.Goals as goal
 

@@ -4,7 +4,6 @@ use mathlib.Core.Path.{◌≡◌, sym, ◌∙◌}
 use mathlib.Core.Bool.{false}
 use mathlib.Core.List.{List}
 use lib.ListN.{length}
-use borrow.Author.Rules.{rules}
 use Rattle.theory.specs.Mesh as mesh
 use Rattle.index_read.specs.Runs.{comment_at, SameRuns, SeparatorsPassed, CommentPassed, NextRun}
 use Rattle.index_read.proofs.Stretches.{test-inside, byte-goes_on, no_end}

@@ -1,15 +1,8 @@
 -- `index_read::runs::next_run` meets its contract. The invariant: the runs from the start on are those from the place
 -- on, where no separator stands. The measure is the number of bytes left.
-use native.Mathlib.Omega.{arith}
-use Prim.Native.Nat.{ℕ, ◌-◌, ◌<◌}
-use mathlib.Core.Path.{◌≡◌, sym, ◌∙◌}
-use mathlib.Core.Bool.{false}
-use mathlib.Core.List.{List}
+use Prim.Native.Nat.{◌-◌}
 use lib.ListN.{length}
-use borrow.Author.Rules.{rules}
-use Rattle.theory.specs.Mesh as mesh
-use Rattle.index_read.specs.Runs.{comment_at, SameRuns, SeparatorsPassed, CommentPassed, NextRun}
-use Rattle.index_read.proofs.Stretches.{test-inside, byte-goes_on, no_end}
+use Rattle.index_read.specs.Runs.{SeparatorsPassed}
 use Rattle.index_read.proofs.runs.next_run.Given as goal
 
 abbrev pub invariant-loop-at : goal.invariant-loop-at

@@ -2,7 +2,6 @@
 -- after -1.
 use native.Mathlib.Omega.{arith}
 use mathlib.Core.Path.{sym, ◌∙◌}
-use borrow.Author.Rules.{rules}
 use Rattle.index_read.proofs.Sayings.{hyphen-last, hyphen-other, hyphen-more, hyphen-one}
 use Rattle.index_read.proofs.runs.take_close.Goals as goal
 

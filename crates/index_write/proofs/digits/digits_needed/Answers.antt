@@ -1,7 +1,6 @@
 -- `index_write::digits::digits_needed` meets its contract: the sum is the number of digits.
 use native.Mathlib.Omega.{arith}
 use Prim.Native.Nat.{ℕ, ◌≤◌}
-use borrow.Author.Rules.{rules}
 use lib.Dec.{leb}
 use Rattle.theory.proofs.Counting.{bit_le}
 use Rattle.index_write.specs.Writing.{AtLeast}
@@ -20,27 +19,27 @@ overflow_add-result-2 c = omega (arith, few c.at_least.ensures, few c.at_least-2
 
 pub overflow_add-result-3 : goal.overflow_add-result-3
 overflow_add-result-3 c = omega (
-      arith,
-      few c.at_least.ensures,
-      few c.at_least-2.ensures,
-      few c.at_least-3.ensures,
-    )
+  arith,
+  few c.at_least.ensures,
+  few c.at_least-2.ensures,
+  few c.at_least-3.ensures,
+)
 
 pub overflow_add-result-4 : goal.overflow_add-result-4
 overflow_add-result-4 c = omega (
-      arith,
-      few c.at_least.ensures,
-      few c.at_least-2.ensures,
-      few c.at_least-3.ensures,
-      few c.at_least-4.ensures,
-    )
+  arith,
+  few c.at_least.ensures,
+  few c.at_least-2.ensures,
+  few c.at_least-3.ensures,
+  few c.at_least-4.ensures,
+)
 
 pub returns : goal.returns
 returns c = omega (
-      arith,
-      digits-counted c.args.value,
-      c.at_least.ensures.counted,
-      c.at_least-2.ensures.counted,
-      c.at_least-3.ensures.counted,
-      c.at_least-4.ensures.counted,
-    )
+  arith,
+  digits-counted c.args.value,
+  c.at_least.ensures.counted,
+  c.at_least-2.ensures.counted,
+  c.at_least-3.ensures.counted,
+  c.at_least-4.ensures.counted,
+)

@@ -1,10 +1,8 @@
 use native.Mathlib.Omega.{arith}
-use Prim.Native.Nat.{ℕ, ◌+◌, ◌-◌}
-use mathlib.Core.Path.{◌≡◌, ap}
-use borrow.Author.Rules.{rules}
-use Rattle.theory.specs.Index.{digits_needed}
+use Prim.Native.Nat.{ℕ, ◌+◌}
+use mathlib.Core.Path.{ap}
 use Rattle.theory.proofs.Index.{decimal-length}
-use Rattle.index_write.proofs.Backwards.{Turn, begun, turn-length, turn_inside, turned, finished}
+use Rattle.index_write.proofs.Backwards.{begun, turn-length, turn_inside, turned, finished}
 use Rattle.index_write.proofs.digits.put_number.Goals as goal
 
 pub overflow_add-end : goal.overflow_add-end

@@ -1,12 +1,9 @@
 -- `index_write::digits::put_number` meets its contract. The invariant: the digits from `at` on stand in the buffer, and
 -- those of `left` are left. The measure is how many are left.
-use native.Mathlib.Omega.{arith}
-use Prim.Native.Nat.{ℕ, ◌+◌, ◌-◌}
-use mathlib.Core.Path.{◌≡◌, ap}
-use borrow.Author.Rules.{rules}
+use Prim.Native.Nat.{◌+◌, ◌-◌}
+use mathlib.Core.Path.{◌≡◌}
 use Rattle.theory.specs.Index.{digits_needed}
-use Rattle.theory.proofs.Index.{decimal-length}
-use Rattle.index_write.proofs.Backwards.{Turn, begun, turn-length, turn_inside, turned, finished}
+use Rattle.index_write.proofs.Backwards.{Turn}
 use Rattle.index_write.proofs.digits.put_number.Given as goal
 
 abbrev pub invariant-loop-at : goal.invariant-loop-at

@@ -2,7 +2,6 @@
 use native.Mathlib.Omega.{arith}
 use lib.ListN.{length-set}
 use Rattle.index_write.proofs.Texts.{put_two}
-use borrow.Author.Rules.{rules}
 use Rattle.index_write.proofs.faces.put_close.Goals as goal
 
 pub bounds-out-place-2 : goal.bounds-out-place-2

@@ -1,8 +1,5 @@
 use native.Mathlib.Omega.{arith}
-use Prim.Native.Nat.{◌*◌, ◌-◌, ◌≤◌}
-use lib.ListN.{length}
-use Rattle.theory.specs.Index.{face_text, faces_text}
-use Rattle.frames_write.proofs.Appends.{RowPut, put-length, row-begun, row_room, row_more}
+use Rattle.frames_write.proofs.Appends.{put-length, row-begun, row_room, row_more}
 use Rattle.index_write.proofs.Texts.{faces_text-row, row_written}
 use Rattle.index_write.proofs.faces.write_faces.Goals as goal
 

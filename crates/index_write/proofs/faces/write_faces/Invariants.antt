@@ -1,11 +1,9 @@
 -- `index_write::faces::write_faces` meets its contract. The invariant: the texts of the first k faces are put. The
 -- measure is what is left of the faces.
-use native.Mathlib.Omega.{arith}
 use Prim.Native.Nat.{◌*◌, ◌-◌, ◌≤◌}
 use lib.ListN.{length}
 use Rattle.theory.specs.Index.{face_text, faces_text}
-use Rattle.frames_write.proofs.Appends.{RowPut, put-length, row-begun, row_room, row_more}
-use Rattle.index_write.proofs.Texts.{faces_text-row, row_written}
+use Rattle.frames_write.proofs.Appends.{RowPut}
 use Rattle.index_write.proofs.faces.write_faces.Given as goal
 
 abbrev pub invariant-loop-k : goal.invariant-loop-k

@@ -1,6 +1,5 @@
 -- `limits::size::judge_size` meets its contract: 2 by `judge_threes`, 3 by the test, and 4 by `judge_large`.
 use native.Mathlib.Omega.{arith}
-use borrow.Author.Rules.{rules}
 use Rattle.limits.proofs.Judgement.{judged-at-0, judged-not, judged-passed, judged-front, judged-back}
 use Rattle.limits.proofs.size.judge_size.Goals as goal
 

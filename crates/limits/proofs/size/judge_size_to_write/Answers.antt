@@ -1,6 +1,5 @@
 -- `limits::size::judge_size_to_write` meets its contract: 2 by `judge_threes`, and 4 by `judge_large`.
 use native.Mathlib.Omega.{arith}
-use borrow.Author.Rules.{rules}
 use Rattle.limits.proofs.Judgement.{judged-passed, judged-front, judged-back}
 use Rattle.limits.proofs.size.judge_size_to_write.Goals as goal
 

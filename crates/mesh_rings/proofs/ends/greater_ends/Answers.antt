@@ -1,8 +1,7 @@
-use Prim.Native.Nat.{◌-◌, max}
+use Prim.Native.Nat.{max}
 use native.Mathlib.Omega.{arith}
 use lib.ListN.{length-set}
-use Rattle.theory.specs.Splitting.{greater}
-use Rattle.mesh_rings.proofs.Tables.{Filling, filling-none, filling-ends, filling-all}
+use Rattle.mesh_rings.proofs.Tables.{filling-none, filling-ends, filling-all}
 use Rattle.mesh_rings.proofs.ends.greater_ends.Goals as goal
 
 pub loop-k-init : goal.loop-k-init

@@ -1,10 +1,8 @@
 -- `mesh_rings::ends::greater_ends` meets its contract. The loop's invariant: the entries of the first k triangles are
 -- the greater ends. The measure is what is left of the triangles.
-use Prim.Native.Nat.{◌-◌, max}
-use native.Mathlib.Omega.{arith}
-use lib.ListN.{length-set}
+use Prim.Native.Nat.{◌-◌}
 use Rattle.theory.specs.Splitting.{greater}
-use Rattle.mesh_rings.proofs.Tables.{Filling, filling-none, filling-ends, filling-all}
+use Rattle.mesh_rings.proofs.Tables.{Filling}
 use Rattle.mesh_rings.proofs.ends.greater_ends.Given as goal
 
 abbrev pub invariant-loop-k : goal.invariant-loop-k

@@ -1,8 +1,6 @@
-use Prim.Native.Nat.{◌-◌}
 use native.Mathlib.Omega.{arith}
 use lib.ListN.{length-set}
-use Rattle.mesh_rings.specs.Tables.{third}
-use Rattle.mesh_rings.proofs.Tables.{Filling, filling-none, filling-thirds, filling-all}
+use Rattle.mesh_rings.proofs.Tables.{filling-none, filling-thirds, filling-all}
 use Rattle.mesh_rings.proofs.ends.third_vertices.Goals as goal
 
 pub loop-k-init : goal.loop-k-init

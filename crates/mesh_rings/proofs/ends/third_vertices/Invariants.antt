@@ -1,10 +1,8 @@
 -- `mesh_rings::ends::third_vertices` meets its contract. The loop's invariant: the entries of the first k triangles are
 -- the third vertices. The measure is what is left of the triangles.
 use Prim.Native.Nat.{◌-◌}
-use native.Mathlib.Omega.{arith}
-use lib.ListN.{length-set}
 use Rattle.mesh_rings.specs.Tables.{third}
-use Rattle.mesh_rings.proofs.Tables.{Filling, filling-none, filling-thirds, filling-all}
+use Rattle.mesh_rings.proofs.Tables.{Filling}
 use Rattle.mesh_rings.proofs.ends.third_vertices.Given as goal
 
 abbrev pub invariant-loop-k : goal.invariant-loop-k

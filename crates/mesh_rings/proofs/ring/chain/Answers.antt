@@ -5,7 +5,6 @@ use Prim.Native.Nat.{ℕ, ◌*◌}
 use mathlib.Core.Path.{◌≡◌}
 use mathlib.Core.List.{List, ◌++◌}
 use lib.ListN.{take, drop, replicate}
-use borrow.Author.Rules.{rules}
 use Rattle.lists.proofs.Lists.{length-filled, take-filled}
 use Rattle.mesh_rings.specs.Chains.{ChainLent}
 use Rattle.mesh_rings.proofs.ring.chain.Goals as goal

@@ -1,7 +1,6 @@
 use native.Mathlib.Omega.{arith}
-use Prim.Native.Nat.{ℕ, ◌+◌, ◌*◌, ◌-◌, ◌≤◌, ◌<◌}
+use Prim.Native.Nat.{ℕ, ◌+◌, ◌*◌, ◌≤◌, ◌<◌}
 use mathlib.Core.Path.{◌≡◌, ◌∙◌, refl, sym}
-use mathlib.Core.Logic.{◌≢◌}
 use mathlib.Core.List.{List, ◌++◌}
 use lib.ListN.{length, drop, replicate}
 use Rattle.theory.specs.Mesh.{at}
@@ -11,7 +10,7 @@ use Rattle.lists.proofs.Lists.{by-eq, at-filled}
 use Rattle.mesh_rings.specs.Tables.{PerHalfEdge}
 use Rattle.mesh_rings.specs.Ring.{RingBy}
 use Rattle.mesh_rings.specs.Chains.{Chained, ChainLent}
-use Rattle.mesh_rings.specs.Making.{RingLent, Follows, Chain, JoinLent, Joined}
+use Rattle.mesh_rings.specs.Making.{RingLent, Chain, JoinLent, Joined}
 use Rattle.mesh_rings.proofs.Tables.{work-kept}
 use Rattle.mesh_rings.proofs.Sides.{ends-below}
 use Rattle.mesh_rings.proofs.EdgeRings.{edge-follows}

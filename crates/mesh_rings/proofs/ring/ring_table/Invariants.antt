@@ -1,23 +1,16 @@
 -- `mesh_rings::ring::ring_table` meets its contract. The loop's invariant: the half-edges whose lesser end is below u
 -- are in rings, the others still have the links of the chains, and no stamp is one of u to N - 1. The measure is what
 -- is left of the vertices.
-use native.Mathlib.Omega.{arith}
-use Prim.Native.Nat.{ℕ, ◌+◌, ◌*◌, ◌-◌, ◌≤◌, ◌<◌}
-use mathlib.Core.Path.{◌≡◌, ◌∙◌, refl, sym}
+use Prim.Native.Nat.{ℕ, ◌*◌, ◌-◌, ◌≤◌, ◌<◌}
+use mathlib.Core.Path.{◌≡◌}
 use mathlib.Core.Logic.{◌≢◌}
-use mathlib.Core.List.{List, ◌++◌}
-use lib.ListN.{length, drop, replicate}
+use mathlib.Core.List.{List}
+use lib.ListN.{length}
 use Rattle.theory.specs.Mesh.{at}
-use Rattle.theory.specs.Splitting.{lesser, greater, first_on}
+use Rattle.theory.specs.Splitting.{lesser, greater}
 use Rattle.lists.specs.Tables.{Tabulated}
-use Rattle.lists.proofs.Lists.{by-eq, at-filled}
-use Rattle.mesh_rings.specs.Tables.{PerHalfEdge}
-use Rattle.mesh_rings.specs.Ring.{RingBy}
-use Rattle.mesh_rings.specs.Chains.{Chained, ChainLent}
-use Rattle.mesh_rings.specs.Making.{RingLent, Follows, Chain, JoinLent, Joined}
-use Rattle.mesh_rings.proofs.Tables.{work-kept}
-use Rattle.mesh_rings.proofs.Sides.{ends-below}
-use Rattle.mesh_rings.proofs.EdgeRings.{edge-follows}
+use Rattle.mesh_rings.specs.Chains.{Chained}
+use Rattle.mesh_rings.specs.Making.{RingLent, Follows}
 use Rattle.mesh_rings.proofs.ring.ring_table.Given as goal
 
 pub record Turn (N F : ℕ) (T highs head stamp₀ last₀ ring₀ stamp last ring : List ℕ) (u : ℕ) : Type 0 where

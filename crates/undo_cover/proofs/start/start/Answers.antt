@@ -1,7 +1,6 @@
 -- `undo_cover::start::start` meets its contract: the tests are those of `start_of`.
 use native.Mathlib.Omega.{arith}
 use mathlib.Core.Path.{◌∙◌, sym}
-use borrow.Author.Rules.{rules}
 use Rattle.lists.proofs.Decides.{decided-not}
 use Rattle.undo_cover.proofs.Starts.{start_of-own, start_of-beside, start_of-none}
 use Rattle.undo_cover.proofs.start.start.Goals as goal

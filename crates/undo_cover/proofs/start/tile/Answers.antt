@@ -1,6 +1,5 @@
 -- `undo_cover::start::tile` meets its contract: the test is that of `tile_of`.
 use mathlib.Core.Path.{sym}
-use borrow.Author.Rules.{rules}
 use Rattle.undo_cover.proofs.Starts.{tile_of-different, tile_of-equal}
 use Rattle.undo_cover.proofs.start.tile.Goals as goal
 

@@ -8,7 +8,6 @@ use mathlib.Core.List.{List, [], ◌∷◌}
 use lib.ListN.{length}
 use lib.Seq.{sets}
 use borrow.Author.Rules.{rules}
-use borrow.Author.Tests.{not-true, not-false}
 use Rattle.theory.specs.Mesh.{at}
 use Rattle.theory.proofs.Splitting.{by_three}
 use Rattle.lists.proofs.Stores.{at-sets, at-sets-other}

@@ -1,13 +1,10 @@
 -- `undo_cover::tiles::rows` meets its contract. The loop's invariant: the rows of the first k triangles are written.
 -- The measure is what is left of the triangles.
-use native.Mathlib.Omega.{arith}
-use Prim.Native.Nat.{ℕ, ◌+◌, ◌-◌, ◌*◌, ◌≤◌, ◌<◌}
-use mathlib.Core.Path.{◌≡◌, ◌∙◌, refl}
-use mathlib.Core.Logic.{◌≢◌}
+use Prim.Native.Nat.{ℕ, ◌-◌, ◌≤◌, ◌<◌}
+use mathlib.Core.Path.{◌≡◌}
 use mathlib.Core.List.{List}
 use lib.ListN.{length}
-use Rattle.lists.proofs.Lists.{by-eq}
-use Rattle.undo_cover.specs.Tiles.{RowOf, tile, flat, RowsOf, RowsLent, RowLent, RowSet}
+use Rattle.undo_cover.specs.Tiles.{RowOf, RowsLent}
 use Rattle.undo_cover.proofs.tiles.rows.Given as goal
 
 pub record Turn (F : ℕ) (other thirds rows₀ rows : List ℕ) (k : ℕ) : Type 0 where

@@ -3,7 +3,6 @@ use Prim.Native.Nat.{ℕ}
 use native.Mathlib.Omega.{arith}
 use mathlib.Core.Path.{◌≡◌}
 use mathlib.Core.Bool.{Bool, false}
-use borrow.Author.Rules.{rules}
 use Rattle.mesh_faults.specs.Faults.{TwoEqual, HasEqual}
 use Rattle.undo_cover.specs.Tiles.{different, equal}
 use Rattle.undo_cover.proofs.tiles.write_row.Goals as goal

@@ -1,6 +1,6 @@
 use native.Mathlib.Omega.{arith}
 use native.Mathlib.Nat.{add-zero}
-use Prim.Native.Nat.{ℕ, zero, suc, ◌+◌, ◌-◌, ◌*◌, ◌/◌, ◌%◌, ◌≤◌, ◌<◌}
+use Prim.Native.Nat.{ℕ, zero, suc, ◌+◌, ◌*◌, ◌/◌, ◌%◌, ◌≤◌, ◌<◌}
 use mathlib.Core.Path.{◌≡◌, ◌∙◌, refl}
 use mathlib.Core.Logic.{◌≢◌}
 use mathlib.Core.List.{List}
@@ -12,7 +12,7 @@ use Rattle.lists.specs.Marks.{marked}
 use Rattle.lists.proofs.Marks.{marked-entry, count-marked}
 use Rattle.undo_match.specs.Runs.{Counted}
 use Rattle.undo_match.specs.Claims.{ClaimsLent, Claimed, claims_of, FourLent, ClaimLent}
-use Rattle.undo_match.proofs.Runs.{stored-length, Placed, placed-none, placed-more}
+use Rattle.undo_match.proofs.Runs.{stored-length, placed-none, placed-more}
 use Rattle.undo_match.proofs.claims.claims.Invariants.{Turn}
 use Rattle.undo_match.proofs.claims.claims.Goals as goal
 

@@ -1,20 +1,13 @@
 -- `undo_match::claims::claims` meets its contract. The loop's invariant: `total` of the first k triangles are marked,
 -- and the four of each marked one stand at the place of its rank. The measure is what is left of the triangles.
-use native.Mathlib.Omega.{arith}
-use native.Mathlib.Nat.{add-zero}
-use Prim.Native.Nat.{ℕ, zero, suc, ◌+◌, ◌-◌, ◌*◌, ◌/◌, ◌%◌, ◌≤◌, ◌<◌}
-use mathlib.Core.Path.{◌≡◌, ◌∙◌, refl}
-use mathlib.Core.Logic.{◌≢◌}
+use Prim.Native.Nat.{ℕ, ◌-◌, ◌≤◌}
+use mathlib.Core.Path.{◌≡◌}
 use mathlib.Core.List.{List}
 use lib.ListN.{length}
-use Rattle.theory.specs.Mesh.{at}
 use Rattle.theory.specs.Counting.{count}
-use Rattle.theory.proofs.Counting.{count-grows}
 use Rattle.lists.specs.Marks.{marked}
-use Rattle.lists.proofs.Marks.{marked-entry, count-marked}
-use Rattle.undo_match.specs.Runs.{Counted}
-use Rattle.undo_match.specs.Claims.{ClaimsLent, Claimed, claims_of, FourLent, ClaimLent}
-use Rattle.undo_match.proofs.Runs.{stored-length, Placed, placed-none, placed-more}
+use Rattle.undo_match.specs.Claims.{ClaimsLent, claims_of}
+use Rattle.undo_match.proofs.Runs.{Placed}
 use Rattle.undo_match.proofs.claims.claims.Given as goal
 
 pub record Turn (F : ℕ) (marks other out₀ out : List ℕ) (total k : ℕ) : Type 0 where

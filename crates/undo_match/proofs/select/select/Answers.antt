@@ -1,8 +1,7 @@
 use native.Mathlib.Omega.{arith}
-use Prim.Native.Nat.{ℕ, ◌+◌, ◌-◌, ◌≤◌, ◌<◌}
+use Prim.Native.Nat.{ℕ, ◌+◌, ◌≤◌, ◌<◌}
 use mathlib.Core.Path.{◌≡◌, ◌∙◌, refl, ap}
 use mathlib.Core.List.{List}
-use lib.ListN.{length}
 use Rattle.theory.specs.Mesh.{at}
 use Rattle.theory.specs.Counting.{count}
 use Rattle.theory.proofs.Counting.{count-le}
@@ -10,7 +9,7 @@ use Rattle.lists.specs.Marks.{marked}
 use Rattle.lists.proofs.Marks.{count-marked}
 use Rattle.undo_match.specs.Runs.{three_of, Counted}
 use Rattle.undo_match.specs.Selected.{SelectLent, Selected, OneLent}
-use Rattle.undo_match.proofs.Runs.{stored-length, three_of-length, at-three_of, Placed, placed-none, placed-more}
+use Rattle.undo_match.proofs.Runs.{stored-length, three_of-length, at-three_of, placed-none, placed-more}
 use Rattle.undo_match.proofs.select.select.Invariants.{Turn}
 use Rattle.undo_match.proofs.select.select.Goals as goal
 

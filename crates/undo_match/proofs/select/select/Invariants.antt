@@ -1,18 +1,15 @@
 -- `undo_match::select::select` meets its contract. The loop's invariant: `total` of the first k triangles are marked,
 -- and the corners of each marked one stand at the place of its rank. The measure is what is left of the triangles.
-use native.Mathlib.Omega.{arith}
-use Prim.Native.Nat.{ℕ, ◌+◌, ◌-◌, ◌≤◌, ◌<◌}
-use mathlib.Core.Path.{◌≡◌, ◌∙◌, refl, ap}
+use Prim.Native.Nat.{ℕ, ◌-◌, ◌≤◌}
+use mathlib.Core.Path.{◌≡◌}
 use mathlib.Core.List.{List}
 use lib.ListN.{length}
 use Rattle.theory.specs.Mesh.{at}
 use Rattle.theory.specs.Counting.{count}
-use Rattle.theory.proofs.Counting.{count-le}
 use Rattle.lists.specs.Marks.{marked}
-use Rattle.lists.proofs.Marks.{count-marked}
-use Rattle.undo_match.specs.Runs.{three_of, Counted}
-use Rattle.undo_match.specs.Selected.{SelectLent, Selected, OneLent}
-use Rattle.undo_match.proofs.Runs.{stored-length, three_of-length, at-three_of, Placed, placed-none, placed-more}
+use Rattle.undo_match.specs.Runs.{three_of}
+use Rattle.undo_match.specs.Selected.{SelectLent}
+use Rattle.undo_match.proofs.Runs.{Placed}
 use Rattle.undo_match.proofs.select.select.Given as goal
 
 pub record Turn (F : ℕ) (list marks out₀ out : List ℕ) (total k : ℕ) : Type 0 where

@@ -6,7 +6,6 @@ use mathlib.Core.Path.{◌≡◌}
 use mathlib.Core.List.{List}
 use lib.ListN.{length-set, set}
 use lib.Seq.{sets}
-use borrow.Author.Rules.{rules}
 use Rattle.theory.specs.Mesh.{at}
 use Rattle.lists.proofs.Stores.{three-stores}
 use Rattle.undo_match.specs.Runs.{three_of}

@@ -1,14 +1,13 @@
 use native.Mathlib.Omega.{arith}
-use Prim.Native.Nat.{ℕ, ◌+◌, ◌-◌, ◌*◌, ◌/◌, ◌≤◌, ◌<◌}
-use mathlib.Core.Path.{◌≡◌, ◌∙◌, refl}
+use Prim.Native.Nat.{ℕ, ◌+◌, ◌*◌, ◌/◌, ◌≤◌, ◌<◌}
+use mathlib.Core.Path.{◌∙◌, refl}
 use mathlib.Core.List.{List}
-use lib.ListN.{length}
 use Rattle.theory.specs.Mesh.{at}
 use Rattle.theory.proofs.Counting.{count-le}
 use Rattle.lists.specs.Marks.{marked}
 use Rattle.undo_match.specs.Runs.{three_of, Stored}
-use Rattle.undo_match.specs.Selected.{selected_half, RingLent, RingSelected, LinksLent, HalfLent}
-use Rattle.undo_match.proofs.Runs.{stored-length, three_of-length, at-three_of, Placed, placed-none, placed-more}
+use Rattle.undo_match.specs.Selected.{RingLent, RingSelected, LinksLent, HalfLent}
+use Rattle.undo_match.proofs.Runs.{stored-length, three_of-length, at-three_of, placed-none, placed-more}
 use Rattle.undo_match.proofs.select.selected_ring.Invariants.{link_at, Turn}
 use Rattle.undo_match.proofs.select.selected_ring.Goals as goal
 

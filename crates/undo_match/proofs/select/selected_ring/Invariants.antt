@@ -1,16 +1,13 @@
 -- `undo_match::select::selected_ring` meets its contract. The loop's invariant: for each marked one of the first k
 -- triangles the links stand at the place of its rank. The measure is what is left of the triangles.
-use native.Mathlib.Omega.{arith}
-use Prim.Native.Nat.{ℕ, ◌+◌, ◌-◌, ◌*◌, ◌/◌, ◌≤◌, ◌<◌}
-use mathlib.Core.Path.{◌≡◌, ◌∙◌, refl}
+use Prim.Native.Nat.{ℕ, ◌-◌, ◌≤◌}
+use mathlib.Core.Path.{◌≡◌}
 use mathlib.Core.List.{List}
 use lib.ListN.{length}
 use Rattle.theory.specs.Mesh.{at}
-use Rattle.theory.proofs.Counting.{count-le}
-use Rattle.lists.specs.Marks.{marked}
-use Rattle.undo_match.specs.Runs.{three_of, Stored}
-use Rattle.undo_match.specs.Selected.{selected_half, RingLent, RingSelected, LinksLent, HalfLent}
-use Rattle.undo_match.proofs.Runs.{stored-length, three_of-length, at-three_of, Placed, placed-none, placed-more}
+use Rattle.undo_match.specs.Runs.{three_of}
+use Rattle.undo_match.specs.Selected.{selected_half, RingLent}
+use Rattle.undo_match.proofs.Runs.{Placed}
 use Rattle.undo_match.proofs.select.selected_ring.Given as goal
 
 -- the link of half-edge h, as a half-edge of the selected list

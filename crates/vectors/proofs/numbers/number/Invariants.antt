@@ -1,6 +1,6 @@
 -- `vectors::numbers::number` meets its contract.
 -- The invariant: `at` has not gone back. The measure is what is left of the text.
-use Rattle.std.proofs.Common.{◌-◌, ◌≤◌, length, rules}
+use Rattle.std.proofs.Common.{◌-◌, ◌≤◌, length}
 use Rattle.vectors.proofs.numbers.number.Given as goal
 
 abbrev pub invariant-loop-at : goal.invariant-loop-at

@@ -1,6 +1,6 @@
 -- `vectors::print::mixed_sum` meets its contract.
 -- The invariant: the sum is below the modulus. The measure is what is left to be added.
-use Rattle.std.proofs.Common.{◌-◌, ◌<◌, rules}
+use Rattle.std.proofs.Common.{◌-◌, ◌<◌}
 use Rattle.vectors.proofs.print.mixed_sum.Given as goal
 
 abbrev pub invariant-loop-i : goal.invariant-loop-i

@@ -1,4 +1,4 @@
-use Rattle.std.proofs.Common.{◌≡◌, ◌-◌, length, length-set, rules}
+use Rattle.std.proofs.Common.{length-set, rules}
 use Rattle.vectors.proofs.try_split.put.Goals as goal
 
 pub loop-i-smaller : goal.loop-i-smaller

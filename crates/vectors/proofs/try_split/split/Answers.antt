@@ -1,6 +1,6 @@
 -- `vectors::try_split::split` meets its contract.
 -- An array is as long as it was made, by the law of repeating and not by counting its entries.
-use Rattle.std.proofs.Common.{ℕ, sym, rules}
+use Rattle.std.proofs.Common.{ℕ, sym}
 use lib.ListN.{length-replicate}
 use Rattle.vectors.proofs.try_split.split.Goals as goal
 

@@ -1,6 +1,6 @@
 -- `vectors::try_undo::print_roles` meets its contract.
 -- The invariant: `level` is at most 7. The measure is what is left of 7.
-use Rattle.std.proofs.Common.{◌-◌, ◌≤◌, rules}
+use Rattle.std.proofs.Common.{◌-◌, ◌≤◌}
 use Rattle.vectors.proofs.try_undo.print_roles.Given as goal
 
 abbrev pub invariant-loop-level : goal.invariant-loop-level
