@@ -85,7 +85,7 @@ fn why(status: ExitStatus, said: &str) -> String {
     let error = |line: &str| line.contains(" error: ") || line.contains(" error[");
     let tells = |line: &&str| error(line) || line.starts_with("rt: ") && !line.contains("its dependency");
     let telling: Vec<&str> = said.lines().filter(tells).collect();
-    let reason = if said.contains("NOT PROVED") {
+    let reason = if said.contains("not proved") {
         "It is made of proved code only, and the code below crates/ as it stands is not proved. If you changed nothing there, \
          tell those who keep the library."
     } else {
@@ -104,13 +104,13 @@ fn variable(name: &str) -> String {
     env::var(name).unwrap_or_else(|_| fail(&format!("{name} is not set: this is for cargo to run")))
 }
 
-// When a file, or the source that was last changed below a folder, was changed.
+// When a file, or the source that was last changed below a folder, was changed. What rt makes stands in folders `out`.
 fn changed(path: &Path) -> SystemTime {
     let Ok(entries) = fs::read_dir(path) else {
         return fs::metadata(path).and_then(|file| file.modified()).unwrap_or(SystemTime::UNIX_EPOCH);
     };
     let below = entries.flatten().map(|entry| entry.path());
-    let sources = below.filter(|path| path.is_dir() || path.extension().is_some_and(|kind| kind == "rt"));
+    let sources = below.filter(|path| path.is_dir() && !path.ends_with("out") || path.extension().is_some_and(|kind| kind == "rt"));
     sources.map(|path| changed(&path)).max().unwrap_or(SystemTime::UNIX_EPOCH)
 }
 

@@ -30,10 +30,9 @@ const KINDS: &[Kind] = &[
     Kind { name: "a full file with CR LF and a byte more", make: byte_more },
 ];
 
-// The program itself; where the machine does not run it, the script that has an emulator run it.
+// The program itself.
 pub fn path() -> PathBuf {
-    let program = if cfg!(target_arch = "x86_64") { "target/bin/unsplit" } else { "unsplit" };
-    PathBuf::from(env!("CARGO_MANIFEST_DIR")).join("..").join(program)
+    PathBuf::from(env!("CARGO_MANIFEST_DIR")).join("../target/bin/unsplit")
 }
 
 // Mostly the first.

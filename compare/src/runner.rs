@@ -75,7 +75,7 @@ fn is_program_there(set: &Set) -> Result<bool, String> {
     if path.exists() {
         Ok(true)
     } else {
-        Err(format!("{} is missing: 'rt check unsplit' makes it", path.display()))
+        Err(format!("{} is missing: './unsplit' makes it", path.display()))
     }
 }
 
