@@ -1,22 +1,12 @@
 -- Work buffers as lists: what two calls leave in them, and that buffers which keep their lengths are cleared to the
 -- same zeros.
-use Prim.Native.Nat.{ℕ, zero, suc}
+use Prim.Native.Nat.{ℕ}
 use mathlib.Core.Path.{◌≡◌, ◌∙◌, refl, sym, ap}
 use mathlib.Core.List.{List, [], ◌∷◌, ◌++◌, map, map-map}
 use lib.ListN.{length, replicate}
 use Rattle.theory.specs.Calls.{zeros}
 
 -- ---- a call's buffers, and their lengths, as lists
-
--- n lists, as a call leaves them.
-abbrev Tuple : ℕ → Type 0
-Tuple zero = Unit {0}
-Tuple (suc n) = List ℕ × Tuple n
-
--- The same as a list.
-abbrev pub listed : (n : ℕ) → Tuple n → List (List ℕ)
-listed zero _ = []
-listed (suc n) (buffer, buffers) = buffer ∷ listed n buffers
 
 -- Two lists that are equal entry by entry.
 abbrev pub Alike : List ℕ → List ℕ → Type 0
