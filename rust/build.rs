@@ -85,7 +85,7 @@ fn why(status: ExitStatus, said: &str) -> String {
     let error = |line: &str| line.contains(" error: ") || line.contains(" error[");
     let tells = |line: &&str| error(line) || line.starts_with("rt: ") && !line.contains("its dependency");
     let telling: Vec<&str> = said.lines().filter(tells).collect();
-    let reason = if said.contains("not proved") {
+    let reason = if said.contains("logic=not-proved") {
         "It is made of proved code only, and the code below crates/ as it stands is not proved. If you changed nothing there, \
          tell those who keep the library."
     } else {

@@ -12,11 +12,11 @@ import glob
 import re
 import sys
 
-WORD = re.compile(r"[A-Za-z_][\w'?!]*(?:-[\w'?!]+)*")
+WORD = re.compile(r"(?<!\w)[A-Za-z_][\w'?!]*(?:-[\w'?!]+)*")
 STRING_OR_WORD = re.compile(r'"(?:[^"\\\n]|\\.)*"|' + WORD.pattern)
 CAMEL = re.compile(r"(?<=[a-z0-9])([A-Z]+)(?![a-z])|(?<=[a-z0-9])([A-Z])")
-# What stands for bytes, or is hexadecimal digits, and no word.
-KEEP = re.compile(r"^x[0-9][A-F]$|^x[0-9][0-9A-Fa-f]N+$|^x[0-9A-F]{4}$|^(?=.*[0-9])[0-9a-fA-F]+$")
+# What stands for bytes, or is hexadecimal digits, and no word; and a word of VRML97.
+KEEP = re.compile(r"^coordIndex$|^x[0-9][A-F]$|^x[0-9][0-9A-Fa-f]N+$|^x[0-9A-F]{4}$|^(?=.*[0-9])[0-9a-fA-F]+$")
 # A fact, which is spelled as a type.
 FACTS = {"noPlace": "NoPlace"}
 # Names of one file that would fall together with others.

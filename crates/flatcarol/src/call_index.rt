@@ -6,7 +6,7 @@ use answers::answers::{FramesAnswer, TextAnswer};
 use index_read::call::read_index;
 use index_write::call::write_index;
 
-// Reads a mesh of `vertices` vertices from its index text, the coord_index of a VRML97 IndexedFaceSet: its triangles,
+// Reads a mesh of `vertices` vertices from its index text, the coordIndex of a VRML97 IndexedFaceSet: its triangles,
 // three corners each, in the first entries of `out`. Its corners are not judged against `vertices`. Refusals 14, 4 and
 // 5, in this order.
 pub fn flatcarol_read_index(vertices: u64, text: &[u8], out: &mut [u16]) -> FramesAnswer

@@ -144,7 +144,7 @@ pub extern "C" fn flatcarol_write_frames(
     call_frames::flatcarol_write_frames(vertices, list, out)
 }
 
-// Reads a mesh of `vertices` vertices from its index text, the coord_index of a VRML97 IndexedFaceSet: its triangles,
+// Reads a mesh of `vertices` vertices from its index text, the coordIndex of a VRML97 IndexedFaceSet: its triangles,
 // three corners each, in the first entries of `out`. Its corners are not judged against `vertices`. Refusals 14, 4 and
 // 5, in this order.
 #[unsafe(no_mangle)]

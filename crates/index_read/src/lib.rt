@@ -1,4 +1,4 @@
-// Index lists read from the text of a VRML97 coord_index. Every run is judged before the first corner is written. It
+// Index lists read from the text of a VRML97 coordIndex. Every run is judged before the first corner is written. It
 // goes twice over the bytes at most, and assumes nothing.
 #![tactic(auto)]
 

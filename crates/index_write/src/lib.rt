@@ -1,4 +1,4 @@
-// Index lists written as the text of a VRML97 coord_index. Its length is counted before the first byte is written. It
+// Index lists written as the text of a VRML97 coordIndex. Its length is counted before the first byte is written. It
 // goes twice over the list, and assumes nothing.
 #![tactic(auto)]
 

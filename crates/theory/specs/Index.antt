@@ -1,4 +1,4 @@
--- Document 02, #101: the index list of a mesh as the coord_index text of a VRML97 IndexedFaceSet, read and written. All
+-- Document 02, #101: the index list of a mesh as the coordIndex text of a VRML97 IndexedFaceSet, read and written. All
 -- of it computes on lists of bytes.
 use Rattle.std.specs.Prelude.{ℕ, zero, suc, ◌+◌, ◌-◌, ◌*◌, ◌/◌, ◌%◌, ◌≡◌, Bool, true, false, not, ◌&&◌, ◌||◌, List, [], ◌∷◌, ◌++◌, leb, ltb, eqb, length}
 use Rattle.std.proofs.Math.Option.{Option, none, some}

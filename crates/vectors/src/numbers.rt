@@ -14,7 +14,7 @@ pub enum Found {
 const TENTH: u64 = 1844674407370955160;
 
 // No number is larger.
-pub const ANY: u64 = 0x_ffffffffffffffff;
+pub const ANY: u64 = 0xFFFFFFFFFFFFFFFF;
 
 // The number that stands at index `from` or after it, with gaps and comments before it. It is wrong above `most`.
 pub fn next(text: &[u8], from: usize, most: u64) -> Found {
