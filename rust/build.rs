@@ -92,7 +92,7 @@ fn why(status: ExitStatus, said: &str) -> String {
         "To make it was tried, and failed."
     };
     let shown = if telling.is_empty() { said.to_string() } else { telling.join("\n") };
-    format!("{reason}\n'{MAKE}' ended ({status}) and said (target/log has more):\n{shown}")
+    format!("{reason}\n'{MAKE}' ended ({status}) and said (target/archive.log has more):\n{shown}")
 }
 
 fn in_path(command: &str) -> bool {
