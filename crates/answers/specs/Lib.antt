@@ -3,3 +3,4 @@ pub mod Answers
 pub mod Counts
 pub mod Taken
 pub mod Levels
+pub mod Said

@@ -10,6 +10,20 @@ pub struct Counts {
     pub boundary: usize,
 }
 
+// How many vertices and triangles a mesh has.
+#[derive(Clone, Copy)]
+pub struct Size {
+    pub vertices: usize,
+    pub triangles: usize,
+}
+
+// What write index wrote: a mesh of such a size, in so many bytes.
+#[derive(Clone, Copy)]
+pub struct Text {
+    pub size: Size,
+    pub bytes: usize,
+}
+
 // What is counted of the splitting of a mesh with so many of each: a vertex on each edge, two halves of it, and three
 // edges more within each triangle.
 pub fn split_counts(counts: Counts) -> Counts

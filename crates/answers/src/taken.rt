@@ -1,41 +1,65 @@
 // What an undo takes, and what becomes of it.
 ghost use Rattle.std.specs.Prelude.{◌≡◌, ◌≤◌};
-ghost use Rattle.answers.specs.Answers.{one_answer_of, outputs};
-ghost use Rattle.answers.specs.Taken.{earlier_of, ReadingLent, left_by, kept_of, answer_to};
+ghost use Rattle.answers.specs.Answers.{outputs};
+ghost use Rattle.answers.specs.Taken.{earlier_of, ReadingLent, left_by, kept_of, undone_of, refusal_of};
 
-use super::answers::{OneAnswer, accepted_one, refused_one};
-use super::counts::coarse_counts;
+use super::counts::{Counts, coarse_counts};
+use limits::refusal::Refusal;
 use lists::copy;
 
-// A role that has a reading, with the counts of its coarse mesh; or the triangle that stands in the way, where there is
-// a reading by the old rule alone; or nothing, where there is none.
+// A role that has a reading, with the counts of its coarse mesh.
 #[derive(Clone, Copy)]
-pub enum Taken {
-    Reading {
-        role: usize,
-        vertices: usize,
-        triangles: usize,
-    },
-    InsideOut {
-        place: usize,
-    },
+pub struct RoleRead {
+    pub role: usize,
+    pub vertices: usize,
+    pub triangles: usize,
+}
+
+// Why no reading is taken: there is one by the old rule alone, with the least triangle that stands in its way; or there
+// is none.
+#[derive(Clone, Copy, Debug, PartialEq, Eq)]
+pub enum NoReading {
+    InsideOut { triangle: usize },
     Nothing,
 }
 
+impl From<NoReading> for Refusal {
+    ghost from_gives = { λ none refusal. refusal ≡ refusal_of none };
+
+    // 15 at the triangle that stands in the way, or 11.
+    fn from(none: NoReading) -> Refusal {
+        match none {
+            NoReading::InsideOut { triangle } => Refusal::InsideOut { triangle },
+            NoReading::Nothing => Refusal::NoReading,
+        }
+    }
+}
+
+// What undo one comes to: the role that is undone, and what is counted of the coarse mesh.
+#[derive(Clone, Copy)]
+pub struct Undone {
+    pub role: usize,
+    pub counts: Counts,
+}
+
 // What is remembered of roles that have no reading, with one more: the first of them that has one by the old rule.
-pub fn earlier(remembered: Taken, tried: Taken) -> Taken
+pub fn earlier(
+    remembered: Result<RoleRead, NoReading>,
+    tried: Result<RoleRead, NoReading>,
+) -> Result<RoleRead, NoReading>
     ensures { result ≡ earlier_of remembered tried }
 {
-    let Taken::Nothing = remembered else {
+    let Err(NoReading::Nothing) = remembered else {
         return remembered;
     };
     tried
 }
 
 // Writes the reading that is taken, which stands in `coarse`, `map` and `faces`, to the outputs of an undo of so many
-// vertices and triangles. Where no reading is taken it writes nothing.
+// vertices and triangles. Where no reading is taken it writes nothing. (The counts are parameters, since what is copied
+// stands at the front of tables that may be longer.)
 pub fn write_reading(
-    taken: Taken,
+    taken: Result<RoleRead, NoReading>,
     vertices: usize,
     triangles: usize,
     coarse: &[u16],
@@ -51,32 +75,28 @@ pub fn write_reading(
         ≡ left_by taken vertices triangles coarse.now map.now faces.now
         (outputs mesh.old vertex_map.old triangle_map.old) }
 {
-    let Taken::Reading {
-        role: _,
-        vertices: _,
-        triangles: centres,
-    } = taken
-    else {
+    let Ok(reading) = taken else {
         return;
     };
-    copy(coarse, mesh, 3 * centres);
+    copy(coarse, mesh, 3 * reading.triangles);
     copy(map, vertex_map, vertices);
     copy(faces, triangle_map, triangles);
 }
 
-// The answer to what is taken from an input of so many vertices and boundary edges: the role, with what is counted of
+// What comes of what is taken from an input of so many vertices and boundary edges: the role, with what is counted of
 // the coarse mesh, or 15 or 11.
-pub fn answer_taken(taken: Taken, vertices: usize, boundary: usize) -> OneAnswer
+pub fn answer_taken(
+    taken: Result<RoleRead, NoReading>,
+    vertices: usize,
+    boundary: usize,
+) -> Result<Undone, Refusal>
     requires { kept_of taken ≤ vertices }
-    ensures { one_answer_of result ≡ answer_to taken vertices boundary }
+    ensures { result ≡ undone_of taken vertices boundary }
 {
-    match taken {
-        Taken::Reading {
-            role,
-            vertices: kept,
-            triangles: centres,
-        } => accepted_one(coarse_counts(vertices, boundary, kept, centres), role),
-        Taken::InsideOut { place } => refused_one(15, place as u64),
-        Taken::Nothing => refused_one(11, 0),
-    }
+    let reading = taken?;
+    let counts = coarse_counts(vertices, boundary, reading.vertices, reading.triangles);
+    Ok(Undone {
+        role: reading.role,
+        counts,
+    })
 }

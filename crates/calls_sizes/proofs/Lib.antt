@@ -1,2 +1,3 @@
--- Laws for whoever calls the functions.
+-- Laws for the functions, and for whoever calls them.
 pub mod Shortest
+pub mod Sizes

@@ -10,9 +10,9 @@ use Rattle.limits.proofs.Judgement.{judged-either}
 
 -- the row of the room comes last, and of the rooms those of the work buffers
 pub judged-by-all : (front : List Rule) (N F : ℕ) (outputs : List Room) (work : ℕ) (works : List ℕ)
-    {shortest number : ℕ} → shortest ≡ least work works
-    → Judged (front ++ (too_short (outputs ++ work_rooms N F (shortest ∷ [])) ∷ [])) number 0
-    → Judged (front ++ (too_short (outputs ++ work_rooms N F (work ∷ works)) ∷ [])) number 0
-judged-by-all front N F outputs work works {shortest} {number} e verdict =
+    {shortest number place : ℕ} → shortest ≡ least work works
+    → Judged (front ++ (too_short (outputs ++ work_rooms N F (shortest ∷ [])) ∷ [])) number place
+    → Judged (front ++ (too_short (outputs ++ work_rooms N F (work ∷ works)) ∷ [])) number place
+judged-by-all front N F outputs work works {shortest} {number} {place} e verdict =
     judged-either front 5 (shortest-short N F outputs work works) (short-shortest N F outputs work works)
-    (subst (λ (n : ℕ). Judged (front ++ (too_short (outputs ++ work_rooms N F (n ∷ [])) ∷ [])) number 0) e verdict)
+    (subst (λ (n : ℕ). Judged (front ++ (too_short (outputs ++ work_rooms N F (n ∷ [])) ∷ [])) number place) e verdict)

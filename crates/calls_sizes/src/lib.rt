@@ -2,30 +2,33 @@
 // and assumes nothing.
 #![tactic(auto)]
 
-ghost use Rattle.std.specs.Prelude.{ℕ, ◌*◌, ◌/◌, ◌≤◌, [], ◌∷◌};
+ghost use Rattle.std.specs.Prelude.{◌/◌, ◌≤◌, [], ◌∷◌};
 ghost use Rattle.theory.specs.Limits.{most_triangles, most_vertices};
-ghost use Rattle.theory.specs.Refusals.{asked_too_much, too_short};
-ghost use Rattle.theory.specs.Calls.{work_rooms, split_rooms, split_size_rules, undo_number_rules};
+ghost use Rattle.theory.specs.Refusals.{too_short};
+ghost use Rattle.theory.specs.Calls.{work_rooms, split_rooms, split_size_rules};
 ghost use Rattle.theory.specs.Calls.{undo_one_rooms, undo_one_size_rules, undo_several_rooms, undo_several_size_rules};
-ghost use Rattle.limits.specs.Judged.{Judged};
+ghost use Rattle.limits.specs.Judged.{JudgedAs};
 
+use limits::refusal::Refusal;
 use limits::size::{judge_levels, judge_role, judge_size_to_split, judge_size_to_undo};
 
-// 2 to 5 of a split, whose output has `out` entries and whose shortest work buffer has `work`; 0 where none is given.
-pub fn judge_split_size(vertices: u64, entries: usize, out: usize, work: usize) -> u64
-    ensures { Judged (split_size_rules vertices entries
-        (split_rooms vertices (entries / 3) out (work ∷ []))) result 0 }
+// 2 to 5 of a split, whose output has `out` entries and whose shortest work buffer has `work`; `Ok` where none is given.
+pub fn judge_split_size(
+    vertices: u64,
+    entries: usize,
+    out: usize,
+    work: usize,
+) -> Result<(), Refusal>
+    ensures { JudgedAs (split_size_rules vertices entries
+        (split_rooms vertices (entries / 3) out (work ∷ []))) result }
 {
-    let number = judge_size_to_split(vertices, entries);
-    if number != 0 {
-        return number;
-    }
+    judge_size_to_split(vertices, entries)?;
     let triangles = entries / 3;
     judge_room(vertices as usize, triangles, out, 12 * triangles, work)
 }
 
 // 1 to 5 of undo one, whose outputs have `mesh`, `vertex_map` and `triangle_map` entries, and whose shortest work
-// buffer has `work`; 0 where none is given.
+// buffer has `work`; `Ok` where none is given.
 pub fn judge_undo_one_size(
     vertices: u64,
     entries: usize,
@@ -34,14 +37,12 @@ pub fn judge_undo_one_size(
     vertex_map: usize,
     triangle_map: usize,
     work: usize,
-) -> u64
-    ensures { Judged (undo_one_size_rules vertices entries asked
-        (undo_one_rooms vertices (entries / 3) mesh vertex_map triangle_map (work ∷ []))) result 0 }
+) -> Result<(), Refusal>
+    ensures { JudgedAs (undo_one_size_rules vertices entries asked
+        (undo_one_rooms vertices (entries / 3) mesh vertex_map triangle_map (work ∷ []))) result }
 {
-    let number = judge_undo_numbers(judge_role(asked), vertices, entries);
-    if number != 0 {
-        return number;
-    }
+    judge_role(asked)?;
+    judge_size_to_undo(vertices, entries)?;
     judge_undo_one_room(
         vertices as usize,
         entries / 3,
@@ -52,54 +53,47 @@ pub fn judge_undo_one_size(
     )
 }
 
-// 1 to 5 of undo several, whose output has `out` entries and whose shortest work buffer has `work`; 0 where none is
-// given.
+// 1 to 5 of undo several, whose output has `out` entries and whose shortest work buffer has `work`; `Ok` where none
+// is given.
 pub fn judge_undo_several_size(
     vertices: u64,
     entries: usize,
     asked: u64,
     out: usize,
     work: usize,
-) -> u64
-    ensures { Judged (undo_several_size_rules vertices entries asked
-        (undo_several_rooms vertices (entries / 3) out (work ∷ []))) result 0 }
+) -> Result<(), Refusal>
+    ensures { JudgedAs (undo_several_size_rules vertices entries asked
+        (undo_several_rooms vertices (entries / 3) out (work ∷ []))) result }
 {
-    let number = judge_undo_numbers(judge_levels(asked), vertices, entries);
-    if number != 0 {
-        return number;
-    }
+    judge_levels(asked)?;
+    judge_size_to_undo(vertices, entries)?;
     let triangles = entries / 3;
     judge_room(vertices as usize, triangles, out, 3 * triangles, work)
 }
 
-// 1 to 4 of an undo, from the verdict on the number asked.
-fn judge_undo_numbers(verdict: u64, vertices: u64, entries: usize) -> u64
-    ensures { (most asked : ℕ) → Judged (asked_too_much most asked ∷ []) verdict 0
-        → Judged (undo_number_rules most vertices entries asked) result 0 }
-{
-    if verdict != 0 {
-        return verdict;
-    }
-    judge_size_to_undo(vertices, entries)
-}
-
-// 5 of a call with one output, of which `needed` entries are needed.
-fn judge_room(vertices: usize, triangles: usize, out: usize, needed: usize, work: usize) -> u64
+// 5 of a call with one output, of which `needed` entries are needed; `Ok` where it is not given.
+fn judge_room(
+    vertices: usize,
+    triangles: usize,
+    out: usize,
+    needed: usize,
+    work: usize,
+) -> Result<(), Refusal>
     requires vertices_le_most_vertices { vertices ≤ most_vertices }
     requires triangles_le_most_triangles { triangles ≤ most_triangles }
-    ensures { Judged (too_short (record { lent = out; needed = needed }
-        ∷ work_rooms vertices triangles (work ∷ [])) ∷ []) result 0 }
+    ensures { JudgedAs (too_short (record { lent = out; needed = needed }
+        ∷ work_rooms vertices triangles (work ∷ [])) ∷ []) result }
 {
     if out < needed {
-        return 5;
+        return Err(Refusal::TooShort);
     }
     if work < vertices + 3 * triangles {
-        return 5;
+        return Err(Refusal::TooShort);
     }
-    0
+    Ok(())
 }
 
-// 5 of undo one.
+// 5 of undo one; `Ok` where it is not given.
 fn judge_undo_one_room(
     vertices: usize,
     triangles: usize,
@@ -107,23 +101,23 @@ fn judge_undo_one_room(
     vertex_map: usize,
     triangle_map: usize,
     work: usize,
-) -> u64
+) -> Result<(), Refusal>
     requires vertices_le_most_vertices { vertices ≤ most_vertices }
     requires triangles_le_most_triangles { triangles ≤ most_triangles }
-    ensures { Judged (too_short (undo_one_rooms vertices triangles mesh vertex_map triangle_map
-        (work ∷ [])) ∷ []) result 0 }
+    ensures { JudgedAs (too_short (undo_one_rooms vertices triangles mesh vertex_map triangle_map
+        (work ∷ [])) ∷ []) result }
 {
     if mesh < 3 * (triangles / 4) {
-        return 5;
+        return Err(Refusal::TooShort);
     }
     if vertex_map < vertices {
-        return 5;
+        return Err(Refusal::TooShort);
     }
     if triangle_map < triangles {
-        return 5;
+        return Err(Refusal::TooShort);
     }
     if work < vertices + 3 * triangles {
-        return 5;
+        return Err(Refusal::TooShort);
     }
-    0
+    Ok(())
 }

@@ -2,7 +2,6 @@
 -- to 5 that are passed, by way of `judge`, to a mesh that can be undone.
 use Prim.Native.Nat.{ℕ, ◌*◌, ◌≤◌}
 use native.Mathlib.Omega.{arith}
-use mathlib.Core.Path.{◌≡◌}
 use mathlib.Core.List.{List, [], ◌∷◌, ◌++◌, map}
 use lib.ListN.{length}
 use Rattle.theory.specs.Limits.{most_triangles}
@@ -11,7 +10,7 @@ use Rattle.theory.specs.Refusals.{Room, too_short, Short, mesh_rules, Passed}
 use Rattle.theory.specs.Calls.{work_rooms, undo_number_rules}
 use Rattle.theory.proofs.Refusals.{asked-known, Sized, sized, not-given, Fits, none-short-fits, passed-proper}
 use Rattle.limits.specs.Judged.{Judged}
-use Rattle.limits.proofs.Judgement.{judged-passed}
+use Rattle.limits.proofs.Judgement.{judged-ok}
 use Rattle.mesh_counts.specs.Counts.{CountLent}
 use Rattle.mesh_judge.specs.Judging.{JudgeLent}
 use Rattle.undo_role.specs.Buffers.{Buffers, Rooms}
@@ -30,12 +29,11 @@ pub record SizesPassed (most N : ℕ) (T : List ℕ) (asked : ℕ) (rooms : List
   pub fits : Fits rooms
 
 -- so it is where they come to 0
-pub sizes-passed : {number most N : ℕ} {T : List ℕ} {asked : ℕ} {rooms : List Room}
-    → Judged (undo_number_rules most N (length T) asked ++ (too_short rooms ∷ [])) number 0 → number ≡ 0
-    → SizesPassed most N T asked rooms
+pub sizes-passed : {most N : ℕ} {T : List ℕ} {asked : ℕ} {rooms : List Room}
+    → Judged (undo_number_rules most N (length T) asked ++ (too_short rooms ∷ [])) 0 0 → SizesPassed most N T asked rooms
 unfolding Passed
-sizes-passed {most = most} {N} {T} {asked} {rooms} judged z =
-    let passed = judged-passed judged z (omega arith) in
+sizes-passed {most = most} {N} {T} {asked} {rooms} judged =
+    let passed = judged-ok judged (omega arith) in
     record {
       passed = passed;
       known = asked-known most asked passed.0;

@@ -1,8 +1,9 @@
 -- The work of undo one: what `judge`, `cover`, `chosen_role`, `write_reading` and `answer_taken` are lent, each from
 -- what the call is lent and from those before, and what the call comes to.
+use Rattle.std.specs.Prelude.{Result, Ok, Err}
 use Prim.Native.Nat.{ℕ, ◌*◌, ◌%◌, ◌≤◌}
 use native.Mathlib.Omega.{arith}
-use mathlib.Core.Path.{◌≡◌, refl, ap, ◌∙◌}
+use mathlib.Core.Path.{◌≡◌, refl, ap, subst, ◌∙◌}
 use mathlib.Core.Logic.{◌≢◌}
 use mathlib.Core.List.{List}
 use lib.ListN.{length, take, length-take}
@@ -18,10 +19,12 @@ use Rattle.theory.proofs.Refusals.{passed-both, refused-by-front, refused-by-bac
 use Rattle.theory.proofs.Determined.{quarter}
 use Rattle.theory.proofs.OldRule.{chosen-passes, none-refuses, inside-out-refuses}
 use Rattle.theory.proofs.Results.{none-chosen}
-use Rattle.limits.proofs.Judgement.{judged-refused}
-use Rattle.answers.specs.declared.taken.Taken.{Taken}
+use Rattle.limits.specs.declared.refusal.Refusal.{Refusal}
+use Rattle.limits.specs.Numbers.{number_of, place_of}
+use Rattle.limits.proofs.Judgement.{judged-err}
 use Rattle.answers.specs.Counts.{coarse_counts}
-use Rattle.answers.specs.Taken.{reading_in, centres_of, kept_of, ReadingLent, left_by, answer_to_reading, answer_to}
+use Rattle.answers.specs.Taken.{Taken, reading_in, centres_of, kept_of, ReadingLent, left_by, answer_to_reading, undone_of}
+use Rattle.answers.specs.Said.{one_said}
 use Rattle.answers.proofs.Counted.{kept-at-most, coarse-counted}
 use Rattle.mesh_rings.specs.Ring.{RingBy}
 use Rattle.mesh_counts.specs.Counts.{CountOf}
@@ -35,22 +38,25 @@ use Rattle.undo_roles.proofs.Uneven.{uneven-none}
 use Rattle.calls_undo_one.specs.Undoing.{works, UndoLent, UndoesMesh}
 use Rattle.calls_undo_one.proofs.Housed.{SizesPassed, sizes-passed, Housed, housed, undoable}
 
--- a list whose 1 to 5 do not come to 0 is refused
-pub refusing-sizes : {number N : ℕ} {T : List ℕ} {asked : ℕ} {out : Outputs} {b : Buffers} {answer : OneAnswer}
-    → UndoLent number N T asked out b → number ≢ 0 → answer ≡ one_refusal number 0
-    → UndoesMesh N T asked out b answer out
-refusing-sizes {number} {N} {T} {asked} {out} {b} L n said =
-    refuses number 0
-    (refused-by-front (undo_one_size_rules N (length T) asked (lent_to_undo_one N T out (works b)))
-    (undo_one_mesh_rules N T asked) number 0 (judged-refused L.judged n))
-    said refl refl
+-- what 1 to 5 come to may be told by cases
+pub lent-as : {sized told : Result Unit Refusal} {N : ℕ} {T : List ℕ} {asked : ℕ} {out : Outputs} {b : Buffers}
+    → UndoLent sized N T asked out b → sized ≡ told → UndoLent told N T asked out b
+lent-as {N = N} {T} {asked} {out} {b} L e = subst (λ s. UndoLent s N T asked out b) e L
 
-module _ {number N : ℕ} {T : List ℕ} {asked : ℕ} {out : Outputs} {b₀ : Buffers}
-    (L : UndoLent number N T asked out b₀) (z : number ≡ 0) where
+-- a list that 1 to 5 refuse is refused
+pub refusing-sizes : {refusal : Refusal} {N : ℕ} {T : List ℕ} {asked : ℕ} {out : Outputs} {b : Buffers}
+    → UndoLent (Err refusal) N T asked out b → UndoesMesh N T asked out b (one_said (Err refusal)) out
+refusing-sizes {refusal} {N} {T} {asked} {out} {b} L =
+    refuses (number_of refusal) (place_of refusal)
+    (refused-by-front (undo_one_size_rules N (length T) asked (lent_to_undo_one N T out (works b)))
+    (undo_one_mesh_rules N T asked) (number_of refusal) (place_of refusal) (judged-err refusal L.judged))
+    refl refl refl
+
+module _ {N : ℕ} {T : List ℕ} {asked : ℕ} {out : Outputs} {b₀ : Buffers} (L : UndoLent (Ok tt) N T asked out b₀) where
   -- ---- 1 to 5 are passed
 
   sizes : SizesPassed any_role N T asked (lent_to_undo_one N T out (works b₀))
-  sizes = sizes-passed L.judged z
+  sizes = sizes-passed L.judged
 
   -- there is room for the list in the work buffers
   pub lent-housed : Housed N T b₀
@@ -80,21 +86,20 @@ module _ {number N : ℕ} {T : List ℕ} {asked : ℕ} {out : Outputs} {b₀ : B
         refusing-by verdict place
         (refused-by-back (mesh_rules N T) (reading_rules N T asked) verdict place passed refused)
 
-  module _ {answer : OneAnswer} where
-    -- a mesh that is not proper
-    pub refusing : {ring : List ℕ} {verdict place : ℕ} → MeshJudged N (triangles T) T ring verdict place → verdict ≢ 0
-        → answer ≡ one_refusal verdict place → UndoesMesh N T asked out b₀ answer out
-    refusing {verdict = verdict} {place} judged n said =
-        refusing-by verdict place
-        (refused-by-front (mesh_rules N T) (reading_rules N T asked) verdict place (judged-refused judged.verdict n))
-        said refl
+  -- a mesh that is not proper
+  pub refusing : {ring : List ℕ} {refusal : Refusal} → MeshJudged N (triangles T) T ring (Err refusal)
+      → UndoesMesh N T asked out b₀ (one_said (Err refusal)) out
+  refusing {refusal = refusal} judged =
+      refusing-by (number_of refusal) (place_of refusal)
+      (refused-by-front (mesh_rules N T) (reading_rules N T asked) (number_of refusal) (place_of refusal)
+      (judged-err refusal judged.verdict))
+      refl refl
 
-    -- one whose triangles are no multiple of four
-    pub uneven : Passed (mesh_rules N T) → triangles T % 4 ≢ 0 → answer ≡ one_refusal 11 0
-        → UndoesMesh N T asked out b₀ answer out
-    uneven passed n said =
-        without 11 0 passed (none-refuses
-        (none-chosen sizes.known (uneven-none (triangles T) (undoable lent-housed passed).whole n))) said refl
+  -- one whose triangles are no multiple of four
+  pub uneven : Passed (mesh_rules N T) → triangles T % 4 ≢ 0 → UndoesMesh N T asked out b₀ (one_refusal 11 0) out
+  uneven passed n =
+      without 11 0 passed (none-refuses
+      (none-chosen sizes.known (uneven-none (triangles T) (undoable lent-housed passed).whole n))) refl refl
 
   -- ---- what is lent
 
@@ -148,14 +153,13 @@ module _ {number N : ℕ} {T : List ℕ} {asked : ℕ} {out : Outputs} {b₀ : B
     answerable (none _) = omega arith
 
     -- what is written and answered is what the call does
-    pub concluding : {reading : Taken} {boundary : ℕ} {answer : OneAnswer} {out' : Outputs}
+    pub concluding : {reading : Taken} {boundary : ℕ} {out' : Outputs}
         → ChosenTried asked N (triangles T) T b.coarse b.map b.faces reading
         → out' ≡ left_by reading N (triangles T) b.coarse b.map b.faces out
-        → boundary ≡ boundary_edges T → answer ≡ answer_to reading N boundary → UndoesMesh N T asked out b₀ answer out'
-    concluding (none refuted) wrote counted said = without 11 0 passed (none-refuses refuted) said wrote
-    concluding (inside_out {k} least) wrote counted said =
-        without 15 k passed (inside-out-refuses least) said wrote
-    concluding (found {role} {M} {n} chosen R) wrote counted said =
+        → boundary ≡ boundary_edges T → UndoesMesh N T asked out b₀ (one_said (undone_of reading N boundary)) out'
+    concluding (none refuted) wrote counted = without 11 0 passed (none-refuses refuted) refl wrote
+    concluding (inside_out {k} least) wrote counted = without 15 k passed (inside-out-refuses least) refl wrote
+    concluding (found {role} {M} {n} chosen R) wrote counted =
         let long : length (take (3 * n) b.coarse) ≡ 3 * n =
         length-take-le _ _ (omega (arith, quartered n R, rooms.coarse.room)) in
         accepts role (reading_in N (triangles T) M n b.coarse b.map b.faces)
@@ -163,6 +167,6 @@ module _ {number N : ℕ} {T : List ℕ} {asked : ℕ} {out : Outputs} {b₀ : B
         (undo_one_mesh_rules N T asked) sizes.passed
         (passed-both (mesh_rules N T) (reading_rules N T asked) passed (chosen-passes chosen)))
         chosen R
-        (said ∙ ap (answer_to_reading role)
+        (ap (answer_to_reading role)
         (ap (λ (B : ℕ). coarse_counts N B M n) counted ∙ coarse-counted mesh.proper R.is (omega arith)))
         wrote refl

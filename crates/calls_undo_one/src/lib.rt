@@ -2,25 +2,27 @@
 // vertices and triangles, and assumes nothing.
 #![tactic(auto)]
 
-ghost use Rattle.answers.specs.Answers.{one_answer_of, outputs};
+ghost use Rattle.answers.specs.Answers.{outputs};
+ghost use Rattle.answers.specs.Said.{one_said};
 ghost use Rattle.undo_role.specs.Buffers.{buffers};
 ghost use Rattle.calls_undo_one.specs.Undoing.{UndoLent, UndoesMesh};
 
-use answers::answers::{OneAnswer, refused_one};
-use answers::taken::{answer_taken, write_reading};
+use answers::taken::{Undone, answer_taken, write_reading};
+use limits::refusal::Refusal;
 use mesh_counts::count_boundary;
 use mesh_judge::judge;
-use undo_cover::cover::cover;
+use mesh_rings::mesh::Mesh;
+use undo_cover::cover::{Covering, cover};
 use undo_roles::chosen_role;
 
-// Gives the number that 1 to 5 came to; or judges 6 to 10, makes the covering mesh, takes the role asked, and gives 15
+// Gives the refusal that 1 to 5 came to; or judges 6 to 10, makes the covering mesh, takes the role asked, and gives 15
 // or 11 or writes the reading. No role has one where the triangles are no multiple of four. The boundary edges are
 // counted while the mesh's rings are there; those of the coarse mesh follow from them. It leaves in the work buffers
 // what it pleases, and promises what undo one promises for when they are cleared. They hold the mesh's rings (`ring`)
 // while it is judged, then the covering mesh with its rings (`other`, `rows`, `ring`), then what a role makes (see
 // `try_role`).
 pub fn undo_mesh(
-    number: u64,
+    sized: Result<(), Refusal>,
     vertices: u64,
     list: &[u16],
     asked: u64,
@@ -36,8 +38,8 @@ pub fn undo_mesh(
     map: &mut [u16],
     faces: &mut [u16],
     table: &mut [u16],
-) -> OneAnswer
-    requires { UndoLent number vertices list.now asked
+) -> Result<Undone, Refusal>
+    requires { UndoLent sized vertices list.now asked
         (outputs mesh.old vertex_map.old triangle_map.old)
         (buffers other.old rows.old ring.old marks.old coarse.old numbers.old map.old faces.old
         table.old) }
@@ -45,28 +47,26 @@ pub fn undo_mesh(
         (outputs mesh.old vertex_map.old triangle_map.old)
         (buffers other.old rows.old ring.old marks.old
         coarse.old numbers.old map.old faces.old table.old)
-        (one_answer_of result)
+        (one_said result)
         (outputs mesh.new vertex_map.new triangle_map.new) }
 {
-    if number != 0 {
-        return refused_one(number, 0);
-    }
+    sized?;
     let vertices = vertices as usize;
     let triangles = list.len() / 3;
-    let verdict = judge(list, vertices, triangles, ring, marks, coarse, numbers, map);
-    if verdict.number != 0 {
-        return refused_one(verdict.number, verdict.place);
-    }
+    let input = Mesh {
+        vertices,
+        triangles,
+        list,
+    };
+    judge(input, ring, marks, coarse, numbers, map)?;
     if triangles % 4 != 0 {
-        return refused_one(11, 0);
+        return Err(Refusal::NoReading);
     }
     let boundary = count_boundary(ring, 3 * triangles);
-    cover(
-        vertices, triangles, list, other, rows, ring, marks, coarse, numbers, map,
-    );
+    cover(input, other, rows, ring, marks, coarse, numbers, map);
+    let covering = Covering { other, rows, ring };
     let taken = chosen_role(
-        asked, vertices, triangles, list, other, rows, ring, marks, coarse, numbers, map, faces,
-        table,
+        asked, input, covering, marks, coarse, numbers, map, faces, table,
     );
     write_reading(
         taken,

@@ -1,9 +1,9 @@
 -- The work of undo several: what the copy and `undo_levels` are lent, from what the call is lent and from those before,
 -- and what the call comes to.
+use Rattle.std.specs.Prelude.{Result, Ok, Err}
 use Prim.Native.Nat.{ℕ, ◌*◌, ◌≤◌}
 use native.Mathlib.Omega.{arith}
-use mathlib.Core.Path.{◌≡◌, refl, sym, ap, ◌∙◌}
-use mathlib.Core.Logic.{◌≢◌}
+use mathlib.Core.Path.{◌≡◌, refl, sym, ap, subst, ◌∙◌}
 use mathlib.Core.List.{List, ◌++◌}
 use lib.ListN.{length, take, drop}
 use lib.Seq.{take-length}
@@ -11,13 +11,15 @@ use Rattle.theory.specs.Limits.{most_levels}
 use Rattle.theory.specs.Mesh.{triangles}
 use Rattle.theory.specs.Splitting.{first_on, edges, boundary_edges}
 use Rattle.theory.specs.Refusals.{mesh_rules, Passed}
-use Rattle.theory.specs.Calls.{SeveralAnswer, several_refusal, undo_several_size_rules, lent_to_undo_several, refuses, accepts}
+use Rattle.theory.specs.Calls.{undo_several_size_rules, lent_to_undo_several, refuses, accepts}
 use Rattle.theory.proofs.Refusals.{passed-both, refused-by-front, refused-by-back}
 use Rattle.lists.proofs.Lists.{take-copied}
-use Rattle.limits.proofs.Judgement.{judged-refused}
+use Rattle.limits.specs.declared.refusal.Refusal.{Refusal}
+use Rattle.limits.specs.Numbers.{number_of, place_of}
+use Rattle.limits.proofs.Judgement.{judged-err}
 use Rattle.answers.specs.declared.levels.Levels.{Levels}
 use Rattle.answers.specs.Counts.{accepted_counts}
-use Rattle.answers.specs.Levels.{answer_to_levels}
+use Rattle.answers.specs.Said.{several_said}
 use Rattle.answers.proofs.Counted.{counts_same}
 use Rattle.mesh_rings.specs.Ring.{RingBy}
 use Rattle.mesh_counts.specs.Counts.{CountOf}
@@ -28,36 +30,40 @@ use Rattle.undo_levels.specs.Levels.{LevelsLent, LevelsUndone}
 use Rattle.calls_undo_one.proofs.Housed.{SizesPassed, sizes-passed, Housed, housed, undoable}
 use Rattle.calls_undo_several.specs.UndoingSeveral.{works, SeveralLent, UndoesLevels}
 
--- a list whose 1 to 5 do not come to 0 is refused
-pub refusing-sizes : {number N : ℕ} {T : List ℕ} {asked : ℕ} {out current : List ℕ} {b : Buffers}
-    {answer : SeveralAnswer} → SeveralLent number N T asked out current b → number ≢ 0
-    → answer ≡ several_refusal number 0 → UndoesLevels N T asked out current b answer out
-refusing-sizes {number} {N} {T} {asked} {out} {current} {b} L n said =
-    refuses number 0
-    (refused-by-front (undo_several_size_rules N (length T) asked (lent_to_undo_several N T out (works current b)))
-    (mesh_rules N T) number 0 (judged-refused L.judged n))
-    said refl refl
+-- what 1 to 5 come to may be told by cases
+pub lent-as : {sized told : Result Unit Refusal} {N : ℕ} {T : List ℕ} {asked : ℕ} {out current : List ℕ} {b : Buffers}
+    → SeveralLent sized N T asked out current b → sized ≡ told → SeveralLent told N T asked out current b
+lent-as {N = N} {T} {asked} {out} {current} {b} L e = subst (λ s. SeveralLent s N T asked out current b) e L
 
-module _ {number N : ℕ} {T : List ℕ} {asked : ℕ} {out current : List ℕ} {b₀ : Buffers}
-    (L : SeveralLent number N T asked out current b₀) (z : number ≡ 0) where
+-- a list that 1 to 5 refuse is refused
+pub refusing-sizes : {refusal : Refusal} {N : ℕ} {T : List ℕ} {asked : ℕ} {out current : List ℕ} {b : Buffers}
+    → SeveralLent (Err refusal) N T asked out current b
+    → UndoesLevels N T asked out current b (several_said (Err refusal)) out
+refusing-sizes {refusal} {N} {T} {asked} {out} {current} {b} L =
+    refuses (number_of refusal) (place_of refusal)
+    (refused-by-front (undo_several_size_rules N (length T) asked (lent_to_undo_several N T out (works current b)))
+    (mesh_rules N T) (number_of refusal) (place_of refusal) (judged-err refusal L.judged))
+    refl refl refl
+
+module _ {N : ℕ} {T : List ℕ} {asked : ℕ} {out current : List ℕ} {b₀ : Buffers}
+    (L : SeveralLent (Ok tt) N T asked out current b₀) where
   -- ---- 1 to 5 are passed
 
   sizes : SizesPassed most_levels N T asked (lent_to_undo_several N T out (works current b₀))
-  sizes = sizes-passed L.judged z
+  sizes = sizes-passed L.judged
 
   -- there is room for the list in the work buffers
   pub lent-housed : Housed N T b₀
   lent-housed = housed sizes.sizes sizes.fits.1.1
 
   -- a mesh that is not proper is refused
-  pub refusing : {ring : List ℕ} {verdict place : ℕ} {answer : SeveralAnswer}
-      → MeshJudged N (triangles T) T ring verdict place → verdict ≢ 0 → answer ≡ several_refusal verdict place
-      → UndoesLevels N T asked out current b₀ answer out
-  refusing {verdict = verdict} {place} judged n said =
-      refuses verdict place
+  pub refusing : {ring : List ℕ} {refusal : Refusal} → MeshJudged N (triangles T) T ring (Err refusal)
+      → UndoesLevels N T asked out current b₀ (several_said (Err refusal)) out
+  refusing {refusal = refusal} judged =
+      refuses (number_of refusal) (place_of refusal)
       (refused-by-back (undo_several_size_rules N (length T) asked (lent_to_undo_several N T out (works current b₀)))
-      (mesh_rules N T) verdict place sizes.passed (judged-refused judged.verdict n))
-      said refl refl
+      (mesh_rules N T) (number_of refusal) (place_of refusal) sizes.passed (judged-err refusal judged.verdict))
+      refl refl refl
 
   -- ---- the copy
 
@@ -95,17 +101,13 @@ module _ {number N : ℕ} {T : List ℕ} {asked : ℕ} {out current : List ℕ} 
     }
 
     -- and what it undoes is what the call undoes
-    pub accepting : {undone : Levels} {answer : SeveralAnswer} {out' : List ℕ}
-        → LevelsUndone asked N (take (3 * triangles T) current') out out' undone → answer ≡ answer_to_levels undone
-        → UndoesLevels N T asked out current b₀ answer out'
-    accepting {undone} U said =
+    pub accepting : {undone : Levels} {out' : List ℕ}
+        → LevelsUndone asked N (take (3 * triangles T) current') out out' undone
+        → UndoesLevels N T asked out current b₀ (several_said (Ok undone)) out'
+    accepting {undone} U =
         accepts undone.levels undone.left.vertices U.roles U.mesh
         (passed-both (undo_several_size_rules N (length T) asked (lent_to_undo_several N T out (works current b₀)))
         (mesh_rules N T) sizes.passed passed)
         (rw copied-list at U.several)
-        (said ∙ λ i. record {
-          common = accepted_counts (U.counted i);
-          levels = undone.levels;
-          roles = U.places i;
-        })
+        (λ i. record { common = accepted_counts (U.counted i); levels = undone.levels; roles = U.places i })
         U.left refl

@@ -1,5 +1,4 @@
--- Work buffers as lists: what two calls leave in them, and that buffers which keep their lengths are cleared to the
--- same zeros.
+-- Work buffers as lists: buffers that keep their lengths are cleared to the same zeros.
 use Prim.Native.Nat.{ℕ}
 use mathlib.Core.Path.{◌≡◌, ◌∙◌, refl, sym, ap}
 use mathlib.Core.List.{List, [], ◌∷◌, ◌++◌, map, map-map}

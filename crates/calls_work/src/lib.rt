@@ -5,52 +5,17 @@ ghost use Rattle.std.specs.Prelude.{◌≡◌, [], ◌∷◌, map};
 ghost use Rattle.theory.specs.Calls.{zeros};
 ghost use Rattle.theory.proofs.Refusals.{least};
 
-use lists::{clear, lesser};
+use lists::clear;
 
-// The least of five.
-pub fn shortest_of_five(a: usize, b: usize, c: usize, d: usize, e: usize) -> usize
-    ensures { result ≡ least a (b ∷ c ∷ d ∷ e ∷ []) }
+// The least of a number and others.
+pub fn shortest(first: usize, others: &[usize]) -> usize
+    ensures { result ≡ least first others.now }
 {
-    lesser(a, lesser(b, lesser(c, lesser(d, e))))
+    others.iter().fold(first, |least, other| least.min(*other))
 }
 
-// The least of nine.
-pub fn shortest_of_nine(
-    a: usize,
-    b: usize,
-    c: usize,
-    d: usize,
-    e: usize,
-    f: usize,
-    g: usize,
-    h: usize,
-    i: usize,
-) -> usize
-    ensures { result ≡ least a (b ∷ c ∷ d ∷ e ∷ f ∷ g ∷ h ∷ i ∷ []) }
-{
-    let others = shortest_of_five(e, f, g, h, i);
-    lesser(a, lesser(b, lesser(c, lesser(d, others))))
-}
-
-// The least of ten.
-pub fn shortest_of_ten(
-    a: usize,
-    b: usize,
-    c: usize,
-    d: usize,
-    e: usize,
-    f: usize,
-    g: usize,
-    h: usize,
-    i: usize,
-    j: usize,
-) -> usize
-    ensures { result ≡ least a (b ∷ c ∷ d ∷ e ∷ f ∷ g ∷ h ∷ i ∷ j ∷ []) }
-{
-    lesser(a, shortest_of_nine(b, c, d, e, f, g, h, i, j))
-}
-
-// Sets every entry of four buffers to 0.
+// Sets every entry of four buffers to 0. Each number of buffers has its function, and no list of buffers is taken: the
+// kit does not prove a caller that puts buffers which it was lent into one array.
 fn clear_four(a: &mut [u16], b: &mut [u16], c: &mut [u16], d: &mut [u16])
     ensures { (a.new ∷ b.new ∷ c.new ∷ d.new ∷ [])
         ≡ map zeros (a.old ∷ b.old ∷ c.old ∷ d.old ∷ []) }

@@ -11,7 +11,7 @@ use frames_write::call::write_frames;
 pub fn flatcarol_read_frames(bytes: &[u8], out: &mut [u16]) -> FramesAnswer
     ensures { ReadsFrames bytes.now out.old (frames_answer_of result) out.new }
 {
-    read_frames(bytes, out)
+    read_frames(bytes, out).into()
 }
 
 // Writes a mesh of `vertices` vertices, whose triangles are `list`, three corners each, as frames, in the first
@@ -20,5 +20,5 @@ pub fn flatcarol_write_frames(vertices: u64, list: &[u16], out: &mut [u8]) -> Fr
     ensures { WritesFrames vertices list.now out.old (frames_answer_of result)
         out.new }
 {
-    write_frames(vertices, list, out)
+    write_frames(vertices, list, out).into()
 }

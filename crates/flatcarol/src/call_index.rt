@@ -13,7 +13,7 @@ pub fn flatcarol_read_index(vertices: u64, text: &[u8], out: &mut [u16]) -> Fram
     ensures { ReadsIndex vertices text.now out.old (frames_answer_of result)
         out.new }
 {
-    read_index(vertices, text, out)
+    read_index(vertices, text, out).into()
 }
 
 // Writes a mesh of `vertices` vertices, whose triangles are `list`, three corners each, as an index text, in the first
@@ -22,5 +22,5 @@ pub fn flatcarol_write_index(vertices: u64, list: &[u16], out: &mut [u8]) -> Tex
     ensures { WritesIndex vertices list.now out.old (text_answer_of result)
         out.new }
 {
-    write_index(vertices, list, out)
+    write_index(vertices, list, out).into()
 }

@@ -6,7 +6,7 @@ ghost use Rattle.answers.specs.Answers.{answer_of};
 use answers::answers::Answer;
 use calls_sizes::judge_split_size;
 use calls_split::split_mesh;
-use calls_work::{clear_five, shortest_of_five};
+use calls_work::{clear_five, shortest};
 
 // Splits a mesh of `vertices` vertices, whose triangles are `list`, three corners each: every triangle becomes four,
 // in the first entries of `out`. Refusals 2 to 10.
@@ -27,17 +27,14 @@ pub fn flatcarol_split(
         (work1.new ∷ work2.new ∷ work3.new ∷ work4.new
         ∷ work5.new ∷ []) }
 {
-    let work = shortest_of_five(
+    let work = shortest(
         work1.len(),
-        work2.len(),
-        work3.len(),
-        work4.len(),
-        work5.len(),
+        &[work2.len(), work3.len(), work4.len(), work5.len()],
     );
-    let number = judge_split_size(vertices, list.len(), out.len(), work);
+    let sized = judge_split_size(vertices, list.len(), out.len(), work);
     let answer = split_mesh(
-        number, vertices, list, out, work1, work2, work3, work4, work5,
+        sized, vertices, list, out, work1, work2, work3, work4, work5,
     );
     clear_five(work1, work2, work3, work4, work5);
-    answer
+    answer.into()
 }

@@ -6,7 +6,7 @@ ghost use Rattle.answers.specs.Answers.{one_answer_of, outputs};
 use answers::answers::OneAnswer;
 use calls_sizes::judge_undo_one_size;
 use calls_undo_one::undo_mesh;
-use calls_work::{clear_nine, shortest_of_nine};
+use calls_work::{clear_nine, shortest};
 
 // Undoes one split of a mesh of `vertices` vertices, whose triangles are `list`, three corners each, in the role asked
 // of triangle 0 (0 to 3), or in the least role that has a reading (4): the coarse mesh goes to the first entries of
@@ -40,18 +40,20 @@ pub fn flatcarol_undo_one(
         ∷ work5.new ∷ work6.new ∷ work7.new ∷ work8.new
         ∷ work9.new ∷ []) }
 {
-    let work = shortest_of_nine(
+    let work = shortest(
         work1.len(),
-        work2.len(),
-        work3.len(),
-        work4.len(),
-        work5.len(),
-        work6.len(),
-        work7.len(),
-        work8.len(),
-        work9.len(),
+        &[
+            work2.len(),
+            work3.len(),
+            work4.len(),
+            work5.len(),
+            work6.len(),
+            work7.len(),
+            work8.len(),
+            work9.len(),
+        ],
     );
-    let number = judge_undo_one_size(
+    let sized = judge_undo_one_size(
         vertices,
         list.len(),
         asked,
@@ -61,7 +63,7 @@ pub fn flatcarol_undo_one(
         work,
     );
     let answer = undo_mesh(
-        number,
+        sized,
         vertices,
         list,
         asked,
@@ -81,5 +83,5 @@ pub fn flatcarol_undo_one(
     clear_nine(
         work1, work2, work3, work4, work5, work6, work7, work8, work9,
     );
-    answer
+    answer.into()
 }

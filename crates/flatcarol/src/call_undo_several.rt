@@ -6,7 +6,7 @@ ghost use Rattle.answers.specs.Answers.{several_answer_of};
 use answers::answers::SeveralAnswer;
 use calls_sizes::judge_undo_several_size;
 use calls_undo_several::undo_mesh_levels;
-use calls_work::{clear_ten, shortest_of_ten};
+use calls_work::{clear_ten, shortest};
 
 // Undoes up to `asked` splits, at most 7, of a mesh of `vertices` vertices, whose triangles are `list`, three corners
 // each, level by level, each in the least role that has a reading: the mesh that is left goes to the first entries of
@@ -36,25 +36,27 @@ pub fn flatcarol_undo_several(
         ∷ work5.new ∷ work6.new ∷ work7.new ∷ work8.new
         ∷ work9.new ∷ work10.new ∷ []) }
 {
-    let work = shortest_of_ten(
+    let work = shortest(
         work1.len(),
-        work2.len(),
-        work3.len(),
-        work4.len(),
-        work5.len(),
-        work6.len(),
-        work7.len(),
-        work8.len(),
-        work9.len(),
-        work10.len(),
+        &[
+            work2.len(),
+            work3.len(),
+            work4.len(),
+            work5.len(),
+            work6.len(),
+            work7.len(),
+            work8.len(),
+            work9.len(),
+            work10.len(),
+        ],
     );
-    let number = judge_undo_several_size(vertices, list.len(), asked, out.len(), work);
+    let sized = judge_undo_several_size(vertices, list.len(), asked, out.len(), work);
     let answer = undo_mesh_levels(
-        number, vertices, list, asked, out, work1, work2, work3, work4, work5, work6, work7, work8,
+        sized, vertices, list, asked, out, work1, work2, work3, work4, work5, work6, work7, work8,
         work9, work10,
     );
     clear_ten(
         work1, work2, work3, work4, work5, work6, work7, work8, work9, work10,
     );
-    answer
+    answer.into()
 }

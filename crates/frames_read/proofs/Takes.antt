@@ -1,201 +1,131 @@
--- Laws of reading from a place in a list of bytes, part by part: digits, numbers, ends and lines, as theory's readers
--- take them.
-use Prim.Native.Nat.{ℕ, zero, suc, ◌+◌, ◌*◌, ◌/◌, ◌%◌, ◌≤◌, ◌<◌}
+-- Laws of reading from the front of a list of bytes, part by part: digits, numbers, kinds, ends and lines, as theory's
+-- readers take them.
+use Prim.Native.Nat.{ℕ, zero, suc, ◌+◌, ◌-◌, ◌*◌, ◌/◌, ◌%◌, ◌≤◌, ◌<◌}
 use native.Mathlib.Omega.{arith}
-use mathlib.Core.Path.{◌≡◌, refl, ap, ◌∙◌}
-use mathlib.Core.Bool.{Bool, true, false}
+use mathlib.Core.Path.{◌≡◌, refl, sym, ap, ◌∙◌}
 use mathlib.Core.Option.{Option, none, some}
 use mathlib.Core.List.{List, [], ◌∷◌, ◌++◌, append-nil, append_assoc}
+use mathlib.Core.Bool.{Bool, true, false}
 use borrow.Author.Tests.{eq-eqb, ne_eqb}
 use lib.Dec.{eqb}
-use lib.ListN.{length, drop, length-drop, drop_of_length-le}
+use lib.ListN.{length, take, drop}
+use Rattle.std.specs.Prelude.{Option as Maybe, Some, None}
+use Rattle.std.specs.Borrow.{Bor}
+use Rattle.std.proofs.lemmas.List.{take_all, length-drop}
 use Rattle.theory.specs.Mesh.{at}
 use Rattle.theory.specs.Frames.{digit_value, Taken, take_digits, take_numbers, take_lf, take_end, take_line}
 use Rattle.theory.proofs.Frames.{digit-below, take_digits-length}
-use Rattle.frames_read.specs.Parts.{DigitTable, DigitGiven, digit, no_digit, DigitsLeft, take_kind}
-use Rattle.lists.proofs.Lists.{drop-inside}
+use Rattle.frames_read.specs.Parts.{entry_of, DigitGiven, digit, no_digit, take_kind, rest_of, Started, LineStarted}
 
--- ---- digits
+-- ---- the bytes from a place on
 
--- a byte that is given as no more than four digits are together is a digit
-is_digit : {byte given : ℕ} → DigitGiven byte given → given ≤ 60 → digit_value byte ≡ some given
-is_digit (digit e) l = e
-is_digit (no_digit e f) l = absurd (omega arith)
+-- what `&bytes[n..]` is
+abbrev pub from : ℕ → List ℕ → List ℕ
+from n bytes = take (length bytes - n) (drop n bytes)
 
--- and below 16
-pub given-digit : {byte given : ℕ} → DigitGiven byte given → given ≤ 60 → given < 16
-given-digit {byte} {given} G l = digit-below byte given (is_digit G l)
+-- it is what is left of them
+from-drop : (n : ℕ) (bytes : List ℕ) → drop n bytes ≡ from n bytes
+from-drop n bytes = sym (take_all _ _ (omega (arith, length-drop n bytes)))
 
--- none is given as more than 78
-pub given-most : {byte given : ℕ} → DigitGiven byte given → given ≤ 78
-given-most {byte} {given} (digit e) = omega (arith, digit-below byte given e)
-given-most (no_digit e f) = omega arith
+-- ---- what a byte is given as
 
-module _ (bytes : List ℕ) (i n before : ℕ) where
-  -- a byte that is no digit is refused
-  take_digits-wrong : i < length bytes → digit_value (at bytes i) ≡ none
-      → take_digits (suc n) before (drop i bytes) ≡ none
+-- it is its entry in the table of digits
+pub entry-given : (byte entry : ℕ) → entry ≡ entry_of byte → DigitGiven byte entry
+unfolding entry_of
+entry-given byte entry e = go (digit_value byte) refl
+  where
+    go : (o : Option ℕ) → digit_value byte ≡ o → DigitGiven byte entry
+    go none f = no_digit f cc
+    go (some value) f =
+        let is : entry ≡ value = cc in
+        digit (f ∙ ap some (sym is))
+
+module _ {byte given : ℕ} where
+  -- a byte that is given as no more than four digits are together is a digit
+  is_digit : DigitGiven byte given → given ≤ 60 → digit_value byte ≡ some given
+  is_digit (digit e) l = e
+  is_digit (no_digit e f) l = absurd (omega arith)
+
+  -- and below 16
+  pub given-digit : DigitGiven byte given → given ≤ 60 → given < 16
+  given-digit G l = digit-below byte given (is_digit G l)
+
+  -- none is given as more than 78
+  pub given-most : DigitGiven byte given → given ≤ 78
+  given-most (digit e) = omega (arith, digit-below byte given e)
+  given-most (no_digit e f) = omega arith
+
+-- ---- a number of four digits, which are tested together
+
+-- a digit is taken, and then the others
+digit-taken : (byte n before : ℕ) {value : ℕ} (rest : List ℕ) → digit_value byte ≡ some value
+    → take_digits (suc n) before (byte ∷ rest) ≡ take_digits n (16 * before + value) rest
+unfolding take_digits
+digit-taken byte n before rest e = cc
+
+module _ {a b c d : ℕ} where
+  -- four digits are the number
+  pub number-here : (bytes : List ℕ) → 4 ≤ length bytes → DigitGiven (at bytes 0) a → DigitGiven (at bytes 1) b
+      → DigitGiven (at bytes 2) c → DigitGiven (at bytes 3) d → a + b + c + d ≤ 60
+      → take_digits 4 0 bytes
+      ≡ some (record { value = 16 * (16 * (16 * a + b) + c) + d; rest = from 4 bytes })
   unfolding take_digits
-  take_digits-wrong l e = cc (drop-inside bytes i l)
-
-  -- a digit is taken, and the others from the next place on
-  take_digits-digit : (next d : ℕ) → next ≡ i + 1 → i < length bytes → digit_value (at bytes i) ≡ some d
-      → take_digits (suc n) before (drop i bytes) ≡ take_digits n (16 * before + d) (drop next bytes)
-  unfolding take_digits
-  take_digits-digit next d s l e = cc (s, drop-inside bytes i l)
-
--- ---- digits one after the other, from a place on
-
-module _ (bytes : List ℕ) (i n : ℕ) {a : ℕ} where
-  -- one is taken
-  one-taken : i < length bytes → digit_value (at bytes i) ≡ some a
-      → take_digits (suc n) 0 (drop i bytes) ≡ take_digits n a (drop (i + 1) bytes)
-  one-taken l e =
-      let v : 16 * 0 + a ≡ a = omega arith in
-      take_digits-digit bytes i n 0 (i + 1) a refl l e ∙ rw v
-
-module _ (bytes : List ℕ) (i : ℕ) {a b : ℕ} (e : digit_value (at bytes i) ≡ some a)
-    (f : digit_value (at bytes (i + 1)) ≡ some b) where
-  -- two are
-  two-taken : (n : ℕ) → i + 1 < length bytes
-      → take_digits (suc (suc n)) 0 (drop i bytes) ≡ take_digits n (16 * a + b) (drop (i + 2) bytes)
-  two-taken n l =
-      one-taken bytes i (suc n) (omega arith) e
-      ∙ take_digits-digit bytes (i + 1) n a (i + 2) b (omega arith) l f
-
-  -- three are
-  three-taken : (n : ℕ) {c : ℕ} → i + 2 < length bytes → digit_value (at bytes (i + 2)) ≡ some c
-      → take_digits (suc (suc (suc n))) 0 (drop i bytes) ≡ take_digits n (16 * (16 * a + b) + c) (drop (i + 3) bytes)
-  three-taken n {c} l g =
-      two-taken (suc n) (omega arith) ∙ take_digits-digit bytes (i + 2) n (16 * a + b) (i + 3) c (omega arith) l g
-
--- ---- four digits that are tested together
-
-module _ (bytes : List ℕ) (i : ℕ) {a b c d : ℕ} (there : i + 4 ≤ length bytes) (A : DigitGiven (at bytes i) a)
-    (B : DigitGiven (at bytes (i + 1)) b) (C : DigitGiven (at bytes (i + 2)) c)
-    (D : DigitGiven (at bytes (i + 3)) d) where
-  -- the number that four digits are
-  pub number-here : {v : ℕ} → a + b + c + d ≤ 60 → v ≡ 16 * (16 * (16 * a + b) + c) + d
-      → take_digits 4 0 (drop i bytes) ≡ some (record { value = v; rest = drop (i + 4) bytes })
-  unfolding take_digits
-  number-here {v} l e =
-      three-taken bytes i (is_digit A (omega arith)) (is_digit B (omega arith)) 1 (omega arith)
-      (is_digit C (omega arith))
-      ∙ take_digits-digit bytes (i + 3) 0 _ (i + 4) d (omega arith) (omega arith) (is_digit D (omega arith))
-      ∙ rw e
+  number-here (p ∷ q ∷ r ∷ s ∷ rest) l A B C D m =
+      digit-taken p 3 0 (q ∷ r ∷ s ∷ rest) (is_digit A (omega arith))
+      ∙ digit-taken q 2 _ (r ∷ s ∷ rest) (is_digit B (omega arith))
+      ∙ digit-taken r 1 _ (s ∷ rest) (is_digit C (omega arith))
+      ∙ digit-taken s 0 _ rest (is_digit D (omega arith))
+      ∙ (let v : 16 * 0 + a ≡ a = omega arith in cc (v, from-drop 4 (p ∷ q ∷ r ∷ s ∷ rest)))
+  number-here _ l A B C D m = absurd (omega arith)
 
   -- where they are together more than digits are, one of them is none
-  pub number-wrong : 60 < a + b + c + d → take_digits 4 0 (drop i bytes) ≡ none
-  number-wrong l = go A B C D
-    where
-      go : DigitGiven (at bytes i) a → DigitGiven (at bytes (i + 1)) b → DigitGiven (at bytes (i + 2)) c
-          → DigitGiven (at bytes (i + 3)) d → take_digits 4 0 (drop i bytes) ≡ none
-      go (no_digit e _) p q r = take_digits-wrong bytes i 3 0 (omega arith) e
-      go (digit e) (no_digit f _) q r =
-          one-taken bytes i 3 (omega arith) e ∙ take_digits-wrong bytes (i + 1) 2 a (omega arith) f
-      go (digit e) (digit f) (no_digit g _) r =
-          two-taken bytes i e f 2 (omega arith) ∙ take_digits-wrong bytes (i + 2) 1 _ (omega arith) g
-      go (digit e) (digit f) (digit g) (no_digit h _) =
-          three-taken bytes i e f 1 (omega arith) g ∙ take_digits-wrong bytes (i + 3) 0 _ (omega arith) h
-      go (digit e) (digit f) (digit g) (digit h) =
-          absurd (omega (arith, digit-below _ a e, digit-below _ b f, digit-below _ c g, digit-below _ d h))
-
--- ---- ends
-
--- there is no end of a line where there are no bytes
-take_end-missing : (bytes : List ℕ) → length bytes < 1 → take_end bytes ≡ none
-unfolding take_end
-take_end-missing [] l = refl
-take_end-missing (byte ∷ bytes) l = absurd (omega arith)
-
-module _ (bytes : List ℕ) (i : ℕ) where
-  -- there is no LF where no byte is left
-  pub take_lf-missing : length bytes ≤ i → take_lf (drop i bytes) ≡ none
-  unfolding take_lf
-  take_lf-missing l = cc (drop_of_length-le bytes l)
-
-  -- nor where another byte stands
-  pub take_lf-wrong : i < length bytes → (at bytes i ≡ 10 → ⊥) → take_lf (drop i bytes) ≡ none
-  unfolding take_lf
-  take_lf-wrong l other = cc (drop-inside bytes i l, ne_eqb (at bytes i) 10 other)
-
-  -- the byte 10 is LF
-  pub take_lf-here : i < length bytes → at bytes i ≡ 10 → take_lf (drop i bytes) ≡ some (drop (i + 1) bytes)
-  unfolding take_lf
-  take_lf-here l e = cc (drop-inside bytes i l)
-
-  -- the end of a line is LF, where no CR stands
-  pub take_end-no-CR : i < length bytes → (at bytes i ≡ 13 → ⊥) → take_end (drop i bytes) ≡ take_lf (drop i bytes)
-  unfolding take_end
-  take_end-no-CR l other = cc (drop-inside bytes i l, ne_eqb (at bytes i) 13 other)
-
-  -- where one stands, it is the LF after it
-  pub take_end-CR : i < length bytes → at bytes i ≡ 13 → take_end (drop i bytes) ≡ take_lf (drop (i + 1) bytes)
-  unfolding take_end
-  take_end-CR l e = cc (drop-inside bytes i l)
-
--- ---- kinds
-
-module _ (kind : ℕ) (bytes : List ℕ) where
-  -- without two digits there is no kind
-  take_kind-none : take_digits 2 0 bytes ≡ none → take_kind kind bytes ≡ none
-  unfolding take_kind
-  take_kind-none e = cc
-
-  -- another number is another kind
-  take_kind-wrong : {v : ℕ} {rest : List ℕ} → take_digits 2 0 bytes ≡ some (record { value = v; rest = rest })
-      → (v ≡ kind → ⊥) → take_kind kind bytes ≡ none
-  unfolding take_kind
-  take_kind-wrong {v} e other = cc (ne_eqb v kind other)
-
-  -- the number is the kind
-  take_kind-here : {v : ℕ} {rest : List ℕ} → take_digits 2 0 bytes ≡ some (record { value = v; rest = rest })
-      → v ≡ kind → take_kind kind bytes ≡ some rest
-  unfolding take_kind
-  take_kind-here {v} e same = cc (eq-eqb v kind same)
-
--- a kind at a place, of which the two bytes are given as digits
-module _ (kind : ℕ) (bytes : List ℕ) (i : ℕ) {h : ℕ} (small : kind < 256) (there : i + 2 ≤ length bytes)
-    (H : DigitGiven (at bytes i) h) where
-  -- without a second digit there is none
-  no_second : digit_value (at bytes i) ≡ some h → digit_value (at bytes (i + 1)) ≡ none
-      → take_kind kind (drop i bytes) ≡ none
-  no_second e f =
-      take_kind-none kind _ (one-taken bytes i 1 (omega arith) e ∙ take_digits-wrong bytes (i + 1) 0 h (omega arith) f)
-
-  -- the first is that of another kind
-  pub kind-other-first : (h ≡ kind / 16 → ⊥) → take_kind kind (drop i bytes) ≡ none
+  pub number-wrong : (bytes : List ℕ) → 4 ≤ length bytes → DigitGiven (at bytes 0) a → DigitGiven (at bytes 1) b
+      → DigitGiven (at bytes 2) c → DigitGiven (at bytes 3) d → 60 < a + b + c + d → take_digits 4 0 bytes ≡ none
   unfolding take_digits
-  kind-other-first not = go H (digit_value (at bytes (i + 1))) refl
+  number-wrong (p ∷ q ∷ r ∷ s ∷ rest) l (no_digit e _) B C D m = cc
+  number-wrong (p ∷ q ∷ r ∷ s ∷ rest) l (digit e) (no_digit f _) C D m = cc
+  number-wrong (p ∷ q ∷ r ∷ s ∷ rest) l (digit e) (digit f) (no_digit g _) D m = cc
+  number-wrong (p ∷ q ∷ r ∷ s ∷ rest) l (digit e) (digit f) (digit g) (no_digit h _) m =
+      digit-taken p 3 0 (q ∷ r ∷ s ∷ rest) e ∙ cc
+  number-wrong (p ∷ q ∷ r ∷ s ∷ rest) l (digit e) (digit f) (digit g) (digit h) m =
+      absurd (omega (arith, digit-below p a e, digit-below q b f, digit-below r c g, digit-below s d h))
+  number-wrong _ l A B C D m = absurd (omega arith)
+
+-- ---- a kind, in two digits
+
+module _ (kind : ℕ) (small : kind < 256) {h : ℕ} where
+  -- the first digit is that of another kind
+  pub kind-other-first : (bytes : List ℕ) → 2 ≤ length bytes → DigitGiven (at bytes 0) h → (h ≡ kind / 16 → ⊥)
+      → take_kind kind bytes ≡ none
+  unfolding take_kind take_digits
+  kind-other-first (p ∷ q ∷ rest) l (no_digit e _) other = cc
+  kind-other-first (p ∷ q ∷ rest) l (digit e) other = go (digit_value q) refl
     where
-      go : DigitGiven (at bytes i) h → (o : Option ℕ) → digit_value (at bytes (i + 1)) ≡ o
-          → take_kind kind (drop i bytes) ≡ none
-      go (no_digit e _) o f = take_kind-none kind _ (take_digits-wrong bytes i 1 0 (omega arith) e)
-      go (digit e) none f = no_second e f
-      go (digit e) (some w) f =
-          take_kind-wrong kind _ (two-taken bytes i e f 0 (omega arith)) (λ same. not (omega (arith, digit-below _ w f)))
+      go : (o : Option ℕ) → digit_value q ≡ o → take_kind kind (p ∷ q ∷ rest) ≡ none
+      go none f = cc
+      go (some w) f =
+          let wrong : 16 * (16 * 0 + h) + w ≡ kind → ⊥ = λ is. other (omega (arith, digit-below q w f)) in
+          cc (ne_eqb _ kind wrong)
+  kind-other-first _ l H other = absurd (omega arith)
 
-  module _ {l : ℕ} (first : h ≡ kind / 16) (L : DigitGiven (at bytes (i + 1)) l) where
-    -- the first is a digit
-    first-digit : digit_value (at bytes i) ≡ some h
-    first-digit = is_digit H (omega arith)
+  -- the second one is
+  pub kind-other-second : (bytes : List ℕ) {l : ℕ} → 2 ≤ length bytes → DigitGiven (at bytes 0) h → h ≡ kind / 16
+      → DigitGiven (at bytes 1) l → (l ≡ kind % 16 → ⊥) → take_kind kind bytes ≡ none
+  unfolding take_kind take_digits
+  kind-other-second (p ∷ q ∷ rest) long H first (no_digit f _) other = cc (is_digit H (omega arith))
+  kind-other-second (p ∷ q ∷ rest) {l} long H first (digit f) other =
+      let wrong : 16 * (16 * 0 + h) + l ≡ kind → ⊥ = λ is. other (omega (arith, digit-below q l f)) in
+      cc (is_digit H (omega arith), ne_eqb _ kind wrong)
+  kind-other-second _ long H first L other = absurd (omega arith)
 
-    -- the second is that of another kind
-    pub kind-other-second : (l ≡ kind % 16 → ⊥) → take_kind kind (drop i bytes) ≡ none
-    unfolding take_digits
-    kind-other-second not = go L
-      where
-        go : DigitGiven (at bytes (i + 1)) l → take_kind kind (drop i bytes) ≡ none
-        go (no_digit f _) = no_second first-digit f
-        go (digit f) =
-            take_kind-wrong kind _ (two-taken bytes i first-digit f 0 (omega arith))
-            (λ same. not (omega (arith, digit-below _ l f)))
-
-    -- both are those of the kind
-    pub kind-here : l ≡ kind % 16 → take_kind kind (drop i bytes) ≡ some (drop (i + 2) bytes)
-    unfolding take_digits
-    kind-here second =
-        take_kind-here kind _ (two-taken bytes i first-digit (is_digit L (omega arith)) 0 (omega arith)) (omega arith)
+  -- both are those of the kind
+  pub kind-here : (bytes : List ℕ) {l : ℕ} → 2 ≤ length bytes → DigitGiven (at bytes 0) h → h ≡ kind / 16
+      → DigitGiven (at bytes 1) l → l ≡ kind % 16 → take_kind kind bytes ≡ some (from 2 bytes)
+  unfolding take_kind take_digits
+  kind-here (p ∷ q ∷ rest) {l} long H first L second =
+      let right : 16 * (16 * 0 + h) + l ≡ kind = omega arith in
+      cc (is_digit H (omega arith), is_digit L (omega arith), eq-eqb _ kind right, from-drop 2 (p ∷ q ∷ rest))
+  kind-here _ long H first L second = absurd (omega arith)
 
 -- a kind that is taken is two bytes
 take_kind-length : (kind : ℕ) (bytes rest : List ℕ) → take_kind kind bytes ≡ some rest → length bytes ≡ 2 + length rest
@@ -207,11 +137,43 @@ take_kind-length kind bytes rest e = go (take_digits 2 0 bytes) refl
     found t f true g =
         let r : t.rest ≡ rest = cc in
         omega (arith, take_digits-length 2 0 bytes t f, ap length r)
-    found t f false g = let z : ◌≡◌ {A = ℕ} 0 1 = cc in absurd (omega arith)
+    found t f false g = cc
 
     go : (o : Option (Taken ℕ)) → take_digits 2 0 bytes ≡ o → length bytes ≡ 2 + length rest
-    go none f = let z : ◌≡◌ {A = ℕ} 0 1 = cc in absurd (omega arith)
+    go none f = cc
     go (some t) f = found t f (eqb t.value kind) refl
+
+-- ---- the ends of lines
+
+-- there is no end of a line where there are no bytes
+take_end-missing : (bytes : List ℕ) → length bytes < 1 → take_end bytes ≡ none
+unfolding take_end
+take_end-missing [] l = refl
+take_end-missing (byte ∷ bytes) l = absurd (omega arith)
+
+-- there is no LF where another byte stands, or none
+pub take_lf-wrong : (bytes : List ℕ) → (0 < length bytes → at bytes 0 ≡ 10 → ⊥) → take_lf bytes ≡ none
+unfolding take_lf
+take_lf-wrong [] other = refl
+take_lf-wrong (byte ∷ rest) other = cc (ne_eqb byte 10 (other (omega arith)))
+
+-- the byte 10 is LF
+pub take_lf-here : (bytes : List ℕ) → 0 < length bytes → at bytes 0 ≡ 10 → take_lf bytes ≡ some (from 1 bytes)
+unfolding take_lf
+take_lf-here [] l e = absurd (omega arith)
+take_lf-here (byte ∷ rest) l e = cc (from-drop 1 (byte ∷ rest))
+
+-- the end of a line is LF, where no CR stands
+pub take_end-no-CR : (bytes : List ℕ) → 0 < length bytes → (at bytes 0 ≡ 13 → ⊥) → take_end bytes ≡ take_lf bytes
+unfolding take_end
+take_end-no-CR [] l other = absurd (omega arith)
+take_end-no-CR (byte ∷ rest) l other = cc (ne_eqb byte 13 other)
+
+-- where one stands, it is the LF after it
+pub take_end-CR : (bytes : List ℕ) → 0 < length bytes → at bytes 0 ≡ 13 → take_end bytes ≡ take_lf (from 1 bytes)
+unfolding take_end
+take_end-CR [] l e = absurd (omega arith)
+take_end-CR (byte ∷ rest) l e = cc (from-drop 1 (byte ∷ rest))
 
 -- ---- lines
 
@@ -252,7 +214,7 @@ pub record Begun (kind n : ℕ) (bytes : List ℕ) (m : ℕ) (so_far rest : List
   pub used : length bytes + 4 * m ≡ 2 + 4 * n + length rest
 
 -- after its kind stand its numbers
-pub begins : (kind n : ℕ) (bytes rest : List ℕ) → take_kind kind bytes ≡ some rest → Begun kind n bytes n [] rest
+begins : (kind n : ℕ) (bytes rest : List ℕ) → take_kind kind bytes ≡ some rest → Begun kind n bytes n [] rest
 begins kind n bytes rest e = record {
   goes = take_line-kind kind n bytes ∙ rw e;
   used = omega (arith, take_kind-length kind bytes rest e);
@@ -266,11 +228,11 @@ module _ {kind n : ℕ} {bytes so_far rest : List ℕ} where
   no_number I e = cc I.goes
 
   -- one number more is read
-  pub number_read : {m : ℕ} (v : ℕ) (others : List ℕ) → Begun kind n bytes (suc m) so_far rest
+  pub number_read : {m v : ℕ} {others : List ℕ} → Begun kind n bytes (suc m) so_far rest
       → take_digits 4 0 rest ≡ some (record { value = v; rest = others })
       → Begun kind n bytes m (so_far ++ v ∷ []) others
   unfolding go_on take_numbers
-  number_read {m} v others I e = record {
+  number_read {m} {v} {others} I e = record {
     goes = I.goes ∙ go (take_numbers m others) refl;
     used = omega (arith, I.used, take_digits-length 4 0 rest (record { value = v; rest = others }) e);
   }
@@ -291,24 +253,10 @@ module _ {kind n : ℕ} {bytes so_far rest : List ℕ} where
   no_end I e = cc I.goes
 
   -- the line is read
-  pub line_read : (others : List ℕ) → Begun kind n bytes 0 so_far rest → take_end rest ≡ some others
+  pub line_read : {others : List ℕ} → Begun kind n bytes 0 so_far rest → take_end rest ≡ some others
       → take_line kind n bytes ≡ some (record { value = so_far; rest = others })
   unfolding go_on take_numbers
-  line_read others I e = cc (I.goes, append-nil so_far)
-
--- ---- lines that are there, and lines that are cut short
-
--- where a whole line of bytes is left from place i on, and it has been read up to place j
-module _ {kind n : ℕ} {so_far : List ℕ} (bytes : List ℕ) (i j : ℕ) (left : i + (3 + 4 * n) ≤ length bytes) where
-  -- the bytes of a number that is to come are there
-  pub number-there : {m : ℕ} {table : List ℕ} → DigitTable table
-      → Begun kind n (drop i bytes) (suc m) so_far (drop j bytes) → DigitsLeft 4 j bytes table
-  number-there looked I =
-      record { there = omega (arith, simp length-drop at I.used); looked = looked }
-
-  -- so is the byte of the end
-  pub end-there : Begun kind n (drop i bytes) 0 so_far (drop j bytes) → j < length bytes
-  end-there I = omega (arith, simp length-drop at I.used)
+  line_read I e = cc (I.goes, append-nil so_far)
 
 -- a line of which so much has been read is none where fewer bytes are left than the others take
 cut_short : {kind n : ℕ} {bytes : List ℕ} (m : ℕ) (so_far rest : List ℕ) → Begun kind n bytes m so_far rest
@@ -323,11 +271,11 @@ cut_short {kind} {n} {bytes} (suc m) so_far rest I l =
         → take_line kind n bytes ≡ none
     go none e next = no_number I e
     go (some t) e next =
-        next t.value t.rest (number_read t.value t.rest I e)
+        next t.value t.rest (number_read I e)
         (omega (arith, take_digits-length 4 0 rest t e))
 
 -- fewer bytes than a line has are no line
-take_line-short : (kind n : ℕ) (bytes : List ℕ) → length bytes < 3 + 4 * n → take_line kind n bytes ≡ none
+pub take_line-short : (kind n : ℕ) (bytes : List ℕ) → length bytes < 3 + 4 * n → take_line kind n bytes ≡ none
 take_line-short kind n bytes l = go (take_kind kind bytes) refl
   where
     go : (o : Option (List ℕ)) → take_kind kind bytes ≡ o → take_line kind n bytes ≡ none
@@ -335,6 +283,23 @@ take_line-short kind n bytes l = go (take_kind kind bytes) refl
     go (some rest) e =
         cut_short n [] rest (begins kind n bytes rest e) (omega (arith, take_kind-length kind bytes rest e))
 
--- nor are those from a place on where so few are left
-pub no_line : (kind n i : ℕ) (bytes : List ℕ) → length bytes < i + (3 + 4 * n) → take_line kind n (drop i bytes) ≡ none
-no_line kind n i bytes l = take_line-short kind n (drop i bytes) (simp length-drop (omega arith))
+-- ---- a line whose bytes are all there, read from its start on
+
+-- its kind tells whether it is started, where they are
+pub start-told : (kind n : ℕ) (bytes : List ℕ) (answer : Maybe (Bor (List ℕ))) → 3 + 4 * n ≤ length bytes
+    → rest_of answer ≡ take_kind kind bytes → LineStarted kind n bytes answer
+start-told kind n bytes (Some rest) long e = record { here = sym e; long = long }
+start-told kind n bytes None long e = no_kind kind n bytes (sym e)
+
+-- once it is, its numbers are to be read
+pub started : {kind n : ℕ} {bytes rest : List ℕ} → Started kind n bytes rest → Begun kind n bytes n [] rest
+started S = begins _ _ _ _ S.here
+
+module _ {kind n : ℕ} {bytes so_far rest : List ℕ} where
+  -- the bytes of its next number are left
+  pub number-there : {m : ℕ} → Begun kind n bytes (suc m) so_far rest → 3 + 4 * n ≤ length bytes → 4 ≤ length rest
+  number-there I long = omega (arith, I.used)
+
+  -- after all of its numbers that of the end is
+  pub end-there : Begun kind n bytes 0 so_far rest → 3 + 4 * n ≤ length bytes → 0 < length rest
+  end-there I long = omega (arith, I.used)

@@ -1,35 +1,26 @@
-// The ends of lines, each read from where a cursor stands.
-ghost use Rattle.std.specs.Prelude.{◌≡◌, ◌<◌, length, drop};
+// The ends of lines.
+ghost use Rattle.std.specs.Prelude.{◌≡◌, ◌<◌, length};
 ghost use Rattle.theory.specs.Frames.{take_lf, take_end};
-ghost use Rattle.frames_read.specs.Parts.{step_of};
+ghost use Rattle.frames_read.specs.Parts.{rest_of};
 
-use super::numbers::{Cursor, Step};
-
-// The LF after a CR.
-fn take_lf(bytes: &[u8], cursor: Cursor) -> Step
-    ensures { step_of bytes.now result ≡ take_lf (drop cursor.at bytes.now) }
+// What is left after the LF that follows a CR.
+fn take_lf(bytes: &[u8]) -> Option<&[u8]>
+    ensures { rest_of result ≡ take_lf bytes.now }
 {
-    let place = cursor.at;
-    if bytes.len() <= place {
-        return Step::Wrong;
+    match bytes {
+        [b'\n', rest @ ..] => Some(rest),
+        _ => None,
     }
-    if bytes[place] == b'\n' {
-        return Step::Holds(Cursor { at: place + 1 });
-    }
-    Step::Wrong
 }
 
-// The end of a line: LF, which is looked for first as most files have it, or CR and LF.
-pub(crate) fn take_end(bytes: &[u8], cursor: Cursor) -> Step
-    requires { cursor.at < length bytes.now }
-    ensures { step_of bytes.now result ≡ take_end (drop cursor.at bytes.now) }
+// What is left after the end of a line: LF, which is looked for first as most files have it, or CR and LF.
+pub(crate) fn take_end(bytes: &[u8]) -> Option<&[u8]>
+    requires { 0 < length bytes.now }
+    ensures { rest_of result ≡ take_end bytes.now }
 {
-    let at = cursor.at;
-    if bytes[at] == b'\n' {
-        return Step::Holds(Cursor { at: at + 1 });
+    match bytes[0] {
+        b'\n' => Some(&bytes[1..]),
+        b'\r' => take_lf(&bytes[1..]),
+        _ => None,
     }
-    if bytes[at] == b'\r' {
-        return take_lf(bytes, Cursor { at: at + 1 });
-    }
-    Step::Wrong
 }

@@ -1,70 +1,39 @@
-// The parts of a line, each read from where a cursor stands: a number of four digits, and the line's kind.
-ghost use Rattle.std.specs.Prelude.{◌≡◌, drop};
+// The parts of a line, each read from the front of the bytes that are left: the line's kind, and a number of four
+// digits. With each comes what is left after it. (std's parsing takes a sign, which frames do not have. The table of
+// digits is a parameter beside the bytes: they change from part to part, and it is one.)
+ghost use Rattle.std.specs.Prelude.{◌≡◌, ◌+◌, ◌≤◌, ◌<◌, length};
 ghost use Rattle.theory.specs.Frames.{take_digits};
-ghost use Rattle.frames_read.specs.Parts.{TooFew, DigitsLeft, KindLeft, number_of, step_of, take_kind};
+ghost use Rattle.frames_read.specs.Parts.{number_of, rest_of, take_kind};
 
-use super::digits::digit_value;
+use super::digits::Digits;
 
-// Where to read on.
-#[derive(Clone, Copy)]
-pub struct Cursor {
-    pub at: usize,
-}
-
-// What stands at a cursor, read as a number: it with the cursor after it.
-#[derive(Clone, Copy)]
-pub enum Number {
-    Holds { value: u16, cursor: Cursor },
-    Wrong,
-}
-
-// What stands at a cursor, where one thing only is right: the cursor after it.
-#[derive(Clone, Copy)]
-pub enum Step {
-    Holds(Cursor),
-    Wrong,
-}
-
-// Whether fewer bytes than so many are left from the cursor on: a line asks once, and its parts no more.
-pub(crate) fn too_few(bytes: &[u8], cursor: Cursor, count: usize) -> bool
-    ensures { TooFew cursor.at count bytes.now result }
+// The kind of a line, in two digits.
+pub(crate) fn take_kind<'a>(bytes: &'a [u8], digits: &Digits, kind: u16) -> Option<&'a [u8]>
+    requires there { 2 ≤ length bytes.now }
+    requires small { kind < 256 }
+    ensures { rest_of result ≡ take_kind kind bytes.now }
 {
-    if bytes.len() < count {
-        return true;
+    if digits.value(bytes[0]) != kind / 16 {
+        return None;
     }
-    bytes.len() - count < cursor.at
+    if digits.value(bytes[1]) != kind % 16 {
+        return None;
+    }
+    Some(&bytes[2..])
 }
 
 // A number of four digits. They are tested together, since a byte that is none makes their sum too large.
-pub(crate) fn take_number(bytes: &[u8], table: &[u8], cursor: Cursor) -> Number
-    requires { DigitsLeft 4 cursor.at bytes.now table.now }
-    ensures { number_of bytes.now result ≡ take_digits 4 0 (drop cursor.at bytes.now) }
+pub(crate) fn take_number<'a>(bytes: &'a [u8], digits: &Digits) -> Option<(u16, &'a [u8])>
+    requires { 4 ≤ length bytes.now }
+    ensures { number_of result ≡ take_digits 4 0 bytes.now }
 {
-    let at = cursor.at;
-    let first = digit_value(table, bytes[at]);
-    let second = digit_value(table, bytes[at + 1]);
-    let third = digit_value(table, bytes[at + 2]);
-    let fourth = digit_value(table, bytes[at + 3]);
+    let first = digits.value(bytes[0]);
+    let second = digits.value(bytes[1]);
+    let third = digits.value(bytes[2]);
+    let fourth = digits.value(bytes[3]);
     if 4 * 15 < first + second + third + fourth {
-        return Number::Wrong;
+        return None;
     }
-    Number::Holds {
-        value: 16 * (16 * (16 * first + second) + third) + fourth,
-        cursor: Cursor { at: at + 4 },
-    }
-}
-
-// The kind of a line, in two digits.
-pub(crate) fn take_kind(bytes: &[u8], table: &[u8], cursor: Cursor, kind: u16) -> Step
-    requires { KindLeft kind cursor.at bytes.now table.now }
-    ensures { step_of bytes.now result ≡ take_kind kind (drop cursor.at bytes.now) }
-{
-    let at = cursor.at;
-    if digit_value(table, bytes[at]) != kind / 16 {
-        return Step::Wrong;
-    }
-    if digit_value(table, bytes[at + 1]) != kind % 16 {
-        return Step::Wrong;
-    }
-    Step::Holds(Cursor { at: at + 2 })
+    let number = 16 * (16 * (16 * first + second) + third) + fourth;
+    Some((number, &bytes[4..]))
 }

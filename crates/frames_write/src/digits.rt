@@ -2,7 +2,8 @@
 ghost use Rattle.std.specs.Prelude.{◌≡◌, ◌<◌};
 ghost use Rattle.theory.specs.Frames.{digit};
 
-// The byte of the digit `value`.
+// The byte of the digit `value`. char::from_digit would give a lower-case letter.
+#[tactic(auto, unfolding(theory::specs::Frames::digit))]
 pub fn digit_byte(value: usize) -> u8
     requires { value < 16 }
     ensures { result ≡ digit value }

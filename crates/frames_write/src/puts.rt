@@ -1,5 +1,7 @@
-// The parts of a line, each put into a buffer from a place on, which answer the place after them.
-ghost use Rattle.std.specs.Prelude.{[], ◌∷◌};
+// A buffer into which the parts of a text are put, each after the one before it.
+#![tactic(auto, unfolding(theory::specs::Frames::two_digits, theory::specs::Frames::four_digits))]
+
+ghost use Rattle.std.specs.Prelude.{◌≡◌, [], ◌∷◌};
 ghost use Rattle.theory.specs.Frames.{two_digits, four_digits};
 ghost use Rattle.frames_write.specs.Putting.{Room, Put};
 
@@ -14,33 +16,49 @@ const THIRD_LAST: usize = BASE * SECOND_LAST;
 
 const FOURTH_LAST: usize = BASE * THIRD_LAST;
 
-// The last two digits of `value`.
-pub(crate) fn put_two(out: &mut [u8], place: usize, value: usize) -> usize
-    requires { Room (two_digits value) out.old place }
-    ensures { Put (two_digits value) out.old place result out.new }
-{
-    out[place] = digit_byte(value / SECOND_LAST % BASE);
-    out[place + 1] = digit_byte(value % BASE);
-    place + 2
+// A buffer, and the place of the next byte that is put into it.
+#[derive(Drop)]
+pub struct Writer<'a> {
+    pub bytes: &'a mut [u8],
+    pub place: usize,
 }
 
-// The last four digits of `value`.
-pub(crate) fn put_four(out: &mut [u8], place: usize, value: usize) -> usize
-    requires { Room (four_digits value) out.old place }
-    ensures { Put (four_digits value) out.old place result out.new }
-{
-    out[place] = digit_byte(value / FOURTH_LAST % BASE);
-    out[place + 1] = digit_byte(value / THIRD_LAST % BASE);
-    out[place + 2] = digit_byte(value / SECOND_LAST % BASE);
-    out[place + 3] = digit_byte(value % BASE);
-    place + 4
-}
+impl<'a> Writer<'a> {
+    // A writer at the front of a buffer.
+    pub fn new(bytes: &'a mut [u8]) -> Writer<'a>
+        ensures same { result.bytes.ghost_name ≡ bytes.entry.ghost_name }
+        ensures untouched { result.bytes.now ≡ bytes.old }
+        ensures front { result.place ≡ 0 }
+    {
+        Writer { bytes, place: 0 }
+    }
 
-// The end of a line, one LF.
-pub(crate) fn put_end(out: &mut [u8], place: usize) -> usize
-    requires { Room (10 ∷ []) out.old place }
-    ensures { Put (10 ∷ []) out.old place result out.new }
-{
-    out[place] = b'\n';
-    place + 1
+    // One byte.
+    pub fn put_byte(&mut self, byte: u8)
+        requires { Room (byte ∷ []) self.old }
+        ensures { Put (byte ∷ []) self.old self.new }
+    {
+        self.bytes[self.place] = byte;
+        self.place += 1;
+    }
+
+    // The last two digits of `value`. (Not by std's printing: the promise names each byte, and would have to be proved of
+    // what that writes. Two and four are two functions, of two lines and of four.)
+    pub(crate) fn put_two(&mut self, value: usize)
+        requires { Room (two_digits value) self.old }
+        ensures { Put (two_digits value) self.old self.new }
+    {
+        self.put_byte(digit_byte(value / SECOND_LAST % BASE));
+        self.put_byte(digit_byte(value % BASE));
+    }
+
+    // The last four digits of `value`.
+    pub(crate) fn put_four(&mut self, value: usize)
+        requires { Room (four_digits value) self.old }
+        ensures { Put (four_digits value) self.old self.new }
+    {
+        self.put_byte(digit_byte(value / FOURTH_LAST % BASE));
+        self.put_byte(digit_byte(value / THIRD_LAST % BASE));
+        self.put_two(value);
+    }
 }

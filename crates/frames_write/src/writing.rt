@@ -1,69 +1,55 @@
 // Writing frames: each line is put after the one before it.
-ghost use Rattle.std.specs.Prelude.{◌≡◌, ◌*◌, take};
-ghost use Rattle.theory.specs.Calls.{written};
-ghost use Rattle.theory.specs.Frames.{mesh_line, triangle_line, triangle_lines, frames};
-ghost use Rattle.frames_write.specs.Putting.{Room, Put, TriangleLent, TrianglesPutLent, FramesPutLent, WriteLent};
+#![tactic(auto, unfolding(theory::specs::Frames::two_digits, theory::specs::Frames::four_digits, theory::specs::Frames::line, theory::specs::Frames::mesh_line, theory::specs::Frames::triangle_line, theory::specs::Frames::triangle_lines, theory::specs::Frames::frames))]
 
-use super::puts::{put_end, put_four, put_two};
+ghost use Rattle.std.specs.Prelude.{◌≡◌, ◌+◌, ◌*◌, ◌≤◌, length};
+ghost use Rattle.theory.specs.Calls.{written};
+ghost use Rattle.theory.specs.Mesh.{triangles};
+ghost use Rattle.theory.specs.Frames.{mesh_line, triangle_line, frames};
+ghost use Rattle.frames_write.specs.Putting.{Room, Put, TriangleLent};
+
+use super::puts::Writer;
 use lists::at;
 
 // The first frame: 4D and the counts of the mesh.
-fn put_mesh(out: &mut [u8], place: usize, vertices: usize, triangles: usize) -> usize
-    requires { Room (mesh_line vertices triangles) out.old place }
-    ensures { Put (mesh_line vertices triangles) out.old place result out.new }
+fn put_mesh(out: &mut Writer, vertices: usize, triangles: usize)
+    requires { Room (mesh_line vertices triangles) out.old }
+    ensures { Put (mesh_line vertices triangles) out.old out.new }
 {
-    let second = put_two(out, place, 0x4D);
-    let third = put_four(out, second, vertices);
-    let last = put_four(out, third, triangles);
-    put_end(out, last)
+    out.put_two(0x4D);
+    out.put_four(vertices);
+    out.put_four(triangles);
+    out.put_byte(b'\n');
 }
 
 // The frame of triangle k: 46 and its corners.
-fn put_triangle(out: &mut [u8], place: usize, list: &[u16], k: usize) -> usize
-    requires { TriangleLent k list.now out.old place }
-    ensures { Put (triangle_line list.now k) out.old place result out.new }
+fn put_triangle(out: &mut Writer, list: &[u16], k: usize)
+    requires { TriangleLent k list.now out.old }
+    ensures { Put (triangle_line list.now k) out.old out.new }
 {
-    let second = put_two(out, place, 0x46);
-    let third = put_four(out, second, at(list, 3 * k));
-    let fourth = put_four(out, third, at(list, 3 * k + 1));
-    let last = put_four(out, fourth, at(list, 3 * k + 2));
-    put_end(out, last)
+    out.put_two(0x46);
+    out.put_four(at(list, 3 * k));
+    out.put_four(at(list, 3 * k + 1));
+    out.put_four(at(list, 3 * k + 2));
+    out.put_byte(b'\n');
 }
 
-// The frames of the first triangles.
-fn put_triangles(out: &mut [u8], place: usize, list: &[u16], triangles: usize) -> usize
-    requires { TrianglesPutLent triangles list.now out.old place }
-    ensures { Put (triangle_lines list.now triangles) out.old place result out.new }
+// The frames of a mesh.
+pub fn put_frames(out: &mut Writer, vertices: usize, list: &[u16])
+    requires { Room (frames vertices list.now) out.old }
+    ensures { Put (frames vertices list.now) out.old out.new }
 {
-    let mut next = place;
-    let mut k = 0;
-    while k < triangles {
-        next = put_triangle(out, next, list, k);
-        k += 1;
+    let triangles = list.len() / 3;
+    put_mesh(out, vertices, triangles);
+    for k in 0..triangles {
+        put_triangle(out, list, k);
     }
-    next
-}
-
-// The frames of a mesh, whose corners are the first entries of the list.
-pub fn put_frames(
-    out: &mut [u8],
-    place: usize,
-    vertices: usize,
-    list: &[u16],
-    triangles: usize,
-) -> usize
-    requires { FramesPutLent vertices triangles list.now out.old place }
-    ensures { Put (frames vertices (take (3 * triangles) list.now)) out.old place result
-        out.new }
-{
-    let second = put_mesh(out, place, vertices, triangles);
-    put_triangles(out, second, list, triangles)
 }
 
 // Writes the frames of a mesh to the front of `out`.
-pub fn write(vertices: usize, list: &[u16], triangles: usize, out: &mut [u8])
-    requires { WriteLent triangles list.now out.old }
+pub fn write(vertices: usize, list: &[u16], out: &mut [u8])
+    requires { 11 + 15 * triangles list.now ≤ length out.old }
     ensures { out.new ≡ written (frames vertices list.now) out.old }
 {
-    put_frames(out, 0, vertices, list, triangles);
+    let mut writer = Writer::new(out);
+    put_frames(&mut writer, vertices, list);
 }

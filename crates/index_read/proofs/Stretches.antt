@@ -1,20 +1,25 @@
 -- Laws of the runs of a text, place by place: bytes of no run are passed over, and a stretch of others is one run.
 use Prim.Native.Nat.{ℕ, suc, ◌+◌, ◌≤◌, ◌<◌}
+use native.Mathlib.Nat.{add-zero}
+use native.Mathlib.Numerals.{add-one}
 use native.Mathlib.Omega.{arith}
 use mathlib.Core.Path.{◌≡◌, refl, sym, ap, ◌∙◌}
 use mathlib.Core.Bool.{Bool, true, false, not, ◌&&◌, and-eq-true_iff}
 use mathlib.Core.List.{List, [], ◌∷◌, ◌++◌}
 use mathlib.Mathlib.Data.Bool.Basic.{or-eq-false-eq-eq-false-and-eq-false as or-eq-false-iff}
-use borrow.Author.Tests.{lt-ltb, le-ltb, ltb-true, ne_eqb, eqb-true, not-true}
+use borrow.Author.Tests.{lt-ltb, le-ltb, ltb-true, ne_eqb, eqb-true, not-true, not-false}
 use lib.Dec.{ltb, eqb}
-use lib.ListN.{length, drop, length-append, length-drop}
+use lib.ListN.{length, drop, drop_of_length-le, length-append, length-drop}
+use Rattle.std.specs.List.{prefix_len, position_or_len}
+use Rattle.std.proofs.lemmas.List.{get_or-drop}
+use Rattle.std.proofs.lemmas.List.Sums.{prefix_len-le-length, prefix_len_stops}
 use lib.Seq.{drop-drop}
 use Rattle.theory.specs.Mesh.{at}
 use Rattle.theory.specs.Index.{separator, comment_start, line_end, runs}
 use Rattle.theory.proofs.Index.{Each, Ordinary, From, runs-separator, runs-from, nothing-apart, runs-word}
-use Rattle.lists.proofs.Lists.{drop-inside}
+use Rattle.lists.proofs.Lists.{by-lt, drop-inside}
 use Rattle.index_read.specs.Bytes.{ends_run}
-use Rattle.index_read.specs.Runs.{goes_on, comment_at, stretch}
+use Rattle.index_read.specs.Runs.{goes_on, comment_at, stretch, SameRuns}
 
 -- ---- bytes at a place
 
@@ -43,7 +48,11 @@ module _ (text : List ℕ) (i : ℕ) (starts : comment_at text i ≡ true) where
   comment-inside =
       ltb-true i (length text) ((and-eq-true_iff (ltb i (length text)) (comment_start (at text i))).0 starts).0
 
-  -- and it is a #
+  -- after which it goes on
+  pub comment-lent : i + 1 ≤ length text
+  comment-lent = omega (arith, comment-inside)
+
+  -- it is a #
   pub comment-byte : comment_start (at text i) ≡ true
   unfolding comment_at
   comment-byte = ((and-eq-true_iff (ltb i (length text)) (comment_start (at text i))).0 starts).1
@@ -105,6 +114,98 @@ module _ (place byte : ℕ) (bytes : List ℕ) where
       go false f =
           let hash : comment_start byte ≡ true = cc in
           rw (runs-commented hash) (runs-from true (suc place) bytes)
+
+-- ---- bytes passed over
+
+-- bytes that pass a test are passed over from the front on, where one of them is
+passed-by : (comment : Bool) (test : ℕ → Bool)
+    → ((place byte : ℕ) (bytes : List ℕ) → test byte ≡ true
+    → runs comment place (byte ∷ bytes) ≡ runs comment (suc place) bytes)
+    → (place : ℕ) (bytes : List ℕ)
+    → runs comment place bytes ≡ runs comment (place + prefix_len test bytes) (drop (prefix_len test bytes) bytes)
+unfolding runs
+passed-by comment test one place [] = refl
+passed-by comment test one place (byte ∷ bytes) = go (test byte) refl (passed-by comment test one (suc place) bytes)
+  where
+    go : (b : Bool) → test byte ≡ b
+        → runs comment (suc place) bytes
+        ≡ runs comment (suc place + prefix_len test bytes) (drop (prefix_len test bytes) bytes)
+        → runs comment place (byte ∷ bytes)
+        ≡ runs comment (place + prefix_len test (byte ∷ bytes)) (drop (prefix_len test (byte ∷ bytes)) (byte ∷ bytes))
+    go true e others =
+        let k : prefix_len test (byte ∷ bytes) ≡ suc (prefix_len test bytes) = rw e (omega arith) in
+        let sum : suc place + prefix_len test bytes ≡ place + suc (prefix_len test bytes) = omega arith in
+        rw k (one place byte bytes e ∙ rw sum at others)
+    go false e others =
+        let k : prefix_len test (byte ∷ bytes) ≡ 0 = cc in
+        rw (k, add-zero place)
+
+-- the place behind the bytes from a place on that pass
+module _ (text : List ℕ) (from : ℕ) (lent : from ≤ length text) (test : ℕ → Bool) {next : ℕ}
+    (behind : next ≡ from + prefix_len test (drop from text)) where
+  -- it is within the text
+  behind-within : next ≤ length text
+  behind-within = omega (arith, behind, prefix_len-le-length test (drop from text), length-drop from text)
+
+  -- the byte there does not pass
+  behind-stops : next < length text → test (at text next) ≡ false
+  behind-stops l =
+      rw (behind, sym (get_or-drop from text (prefix_len test (drop from text)) 0))
+      (prefix_len_stops test (drop from text) 0 (omega (arith, l, behind, length-drop from text)))
+
+  -- and the runs go on there
+  behind-passed : (comment : Bool)
+      → ((place byte : ℕ) (bytes : List ℕ) → test byte ≡ true
+      → runs comment place (byte ∷ bytes) ≡ runs comment (suc place) bytes)
+      → runs comment from (drop from text) ≡ runs comment next (drop next text)
+  behind-passed comment one =
+      rw (behind, sym (drop-drop (prefix_len test (drop from text)) from text))
+      (passed-by comment test one from (drop from text))
+
+-- the next place is the first where no separator stands, or the text's end
+pub record SeparatorsPassed (text : List ℕ) (from next : ℕ) : Type 0 where
+  pub passed : SameRuns text from next
+  pub stops : next < length text → separator (at text next) ≡ false
+
+-- it is behind the separators
+pub separators-passed : (text : List ℕ) (from : ℕ) {next : ℕ} → from ≤ length text
+    → next ≡ from + prefix_len separator (drop from text) → SeparatorsPassed text from next
+separators-passed text from lent behind = record {
+  passed = record {
+    onward = omega (arith, behind);
+    within = behind-within text from lent separator behind;
+    same = behind-passed text from lent separator behind false runs-separated;
+  };
+  stops = behind-stops text from lent separator behind;
+}
+
+-- a comment is passed over, up to where its line or the text ends
+module _ (text : List ℕ) (from : ℕ) (starts : comment_at text from ≡ true) {next : ℕ}
+    (behind : next ≡ from + 1 + position_or_len line_end (drop (from + 1) text)) where
+  -- the runs there are those after the comment
+  line-passed : runs true next (drop next text) ≡ runs false next (drop next text)
+  unfolding runs
+  line-passed =
+      by-lt next (length text)
+      (λ l. rw (drop-inside text next l)
+      (runs-line-end next (at text next) (drop (next + 1) text)
+      (not-false (line_end (at text next))
+      (behind-stops text (from + 1) (comment-lent text from starts) (λ byte. not (line_end byte)) behind l))))
+      (λ l. rw (drop_of_length-le text l))
+
+  pub comment-passed : SameRuns text from next
+  comment-passed =
+      let lent = comment-lent text from starts in
+      record {
+        onward = omega (arith, behind);
+        within = behind-within text (from + 1) lent (λ byte. not (line_end byte)) behind;
+        same =
+            rw (drop-inside text from (comment-inside text from starts), add-one from)
+            (runs-commented from (at text from) (drop (suc from) text) (comment-byte text from starts))
+            ∙ behind-passed text (from + 1) lent (λ byte. not (line_end byte)) behind true
+            (λ place byte bytes e. runs-in-comment place byte bytes (not-true (line_end byte) e))
+            ∙ line-passed;
+      }
 
 -- a byte that ends no run is one of a run
 byte-ordinary : (byte : ℕ) → ends_run byte ≡ false → Ordinary byte

@@ -1,16 +1,10 @@
 // What a byte of an index text may be.
 ghost use Rattle.std.specs.Prelude.{◌≡◌};
 ghost use Rattle.theory.specs.Index.{separator, line_end};
-ghost use Rattle.index_read.specs.Bytes.{is_digit, ends_run};
+ghost use Rattle.index_read.specs.Bytes.{ends_run};
 
-// Whether a byte is a digit, 0 to 9.
-pub(crate) fn is_digit(byte: u8) -> bool
-    ensures { result ≡ is_digit byte }
-{
-    b'0' <= byte && byte <= b'9'
-}
-
-// Whether a byte is a separator.
+// Whether a byte is a separator. It is one test of a bit, which `matches!` made two tests.
+#[tactic(auto, unfolding(theory::specs::Index::separator))]
 pub(crate) fn is_separator(byte: u8) -> bool
     ensures { result ≡ separator byte }
 {
@@ -18,13 +12,15 @@ pub(crate) fn is_separator(byte: u8) -> bool
 }
 
 // Whether a comment ends before a byte.
+#[tactic(auto, unfolding(theory::specs::Index::line_end))]
 pub(crate) fn ends_comment(byte: u8) -> bool
     ensures { result ≡ line_end byte }
 {
-    byte == b'\r' || byte == b'\n'
+    matches!(byte, b'\r' | b'\n')
 }
 
 // Whether a run ends before a byte: a separator, or the # of a comment.
+#[tactic(auto, unfolding(theory::specs::Index::comment_start, crate::specs::Bytes::ends_run))]
 pub(crate) fn ends_run(byte: u8) -> bool
     ensures { result ≡ ends_run byte }
 {

@@ -1,43 +1,23 @@
 // Writing the corners of an index text that was judged right.
-ghost use Rattle.std.specs.Prelude.{◌≡◌};
-ghost use Rattle.index_read.specs.Faces.{CornerLent, corner_written, CornersLent, CornersWritten};
+ghost use Rattle.index_read.specs.Faces.{CornersLent, CornersWritten};
 
-use super::faces::{Step, take_step};
 use super::runs::{Run, next_run, take_run};
 
-// Writes the corner that a run is, if it is one, as entry k.
-fn write_corner(run: Run, out: &mut [u16], k: usize)
-    requires { CornerLent run out.old k }
-    ensures { out.new ≡ corner_written run out.old k }
-{
-    let Run::Corner { value, end: _ } = run else {
-        return;
-    };
-    out[k] = value;
-}
-
-// Writes all corners of a text that is right, in order, to the front of `out`.
+// Writes all corners of a text that is right, in order, to the front of `out`. The walk is that of `judge_text`: one
+// function for both would take a closure, whose contract is longer than the second loop.
 pub(crate) fn write_corners(text: &[u8], out: &mut [u16])
     requires { CornersLent text.now out.old }
     ensures { CornersWritten text.now out.old out.new }
 {
     let mut at = next_run(text, 0);
     let mut corners = 0;
-    let mut face = 0;
     while at < text.len() {
-        let run = take_run(text, at);
-        let Step::Holds {
-            corners: more,
-            face: next,
-            end,
-        } = take_step(run, corners, face)
-        else {
-            // Never: every run was judged right.
-            return;
-        };
-        write_corner(run, out, corners);
-        corners = more;
-        face = next;
+        // Every run was judged right.
+        let (run, end) = take_run(text, at).unwrap();
+        if let Run::Corner(corner) = run {
+            out[corners] = corner;
+            corners += 1;
+        }
         at = next_run(text, end);
     }
 }

@@ -1,81 +1,60 @@
 // Judging an index text: every run says what its face allows, and no corner is missing at the end.
-ghost use Rattle.index_read.specs.Faces.{StepLent, Stepped, TextJudged};
+ghost use Rattle.std.specs.Prelude.{◌<◌, ◌≡◌, ◌||◌, eqb};
+ghost use Rattle.index_read.specs.Faces.{Stepped, TextJudged};
 
 use super::runs::{Run, next_run, take_run};
+use limits::refusal::Refusal;
 
-// What a run makes of its face, where it is right: how many corners there are so far, how many of them in the present
-// face, and where the run ends.
-#[derive(Drop)]
-pub enum Step {
-    Holds {
-        corners: usize,
-        face: usize,
-        end: usize,
-    },
-    Wrong,
+// What the runs so far come to: how many corners they are, and how many of these are in the present face.
+#[derive(Clone, Copy)]
+struct Tally {
+    corners: usize,
+    face: usize,
 }
 
-// What a text is read as: so many faces, or the place of its fault.
-#[derive(Drop)]
-pub enum Verdict {
-    Faces { triangles: usize },
-    Wrong { place: usize },
-}
+impl Tally {
+    // The same with the next run, where that is right: no fourth corner of a face, and no end of a face before its
+    // third.
+    #[tactic(auto, unfolding(theory::specs::Index::face_after, theory::specs::Index::corners_said))]
+    fn after(self, run: Run) -> Option<Tally>
+        requires { self.corners < usize.MAX }
+        ensures { Stepped run self result }
+    {
+        match run {
+            Run::Corner(_) if self.face < 3 => Some(Tally {
+                corners: self.corners + 1,
+                face: self.face + 1,
+            }),
+            Run::Close if self.face == 3 => Some(Tally { face: 0, ..self }),
+            _ => None,
+        }
+    }
 
-// What a run makes of so many corners so far, of which `face` are in the present face.
-pub(crate) fn take_step(run: Run, corners: usize, face: usize) -> Step
-    requires { StepLent corners }
-    ensures { Stepped run corners face result }
-{
-    match run {
-        Run::Corner { value: _, end } => {
-            if face < 3 {
-                return Step::Holds {
-                    corners: corners + 1,
-                    face: face + 1,
-                    end,
-                };
-            }
-            Step::Wrong
-        }
-        Run::Close { end } => {
-            if face == 3 {
-                return Step::Holds {
-                    corners,
-                    face: 0,
-                    end,
-                };
-            }
-            Step::Wrong
-        }
-        Run::Wrong => Step::Wrong,
+    // Whether no corner is missing after them: "the last -1 optional".
+    fn is_whole(self) -> bool
+        ensures { result ≡ (eqb self.face 0 || eqb self.face 3) }
+    {
+        self.face == 0 || self.face == 3
     }
 }
 
-// Judges a text, and counts its faces.
-pub(crate) fn judge_text(text: &[u8]) -> Verdict
+// Judges a text, and counts its faces. Refusal 14.
+pub(crate) fn judge_text(text: &[u8]) -> Result<usize, Refusal>
     ensures { TextJudged text.now result }
 {
+    let mut so_far = Tally {
+        corners: 0,
+        face: 0,
+    };
     let mut at = next_run(text, 0);
-    let mut corners = 0;
-    let mut face = 0;
     while at < text.len() {
-        let Step::Holds {
-            corners: more,
-            face: next,
-            end,
-        } = take_step(take_run(text, at), corners, face)
-        else {
-            return Verdict::Wrong { place: at };
-        };
-        corners = more;
-        face = next;
+        let fault = Refusal::TextWrong { byte: at };
+        let (run, end) = take_run(text, at).ok_or(fault)?;
+        so_far = so_far.after(run).ok_or(fault)?;
         at = next_run(text, end);
     }
-    if face == 1 || face == 2 {
-        return Verdict::Wrong { place: at };
+    if !so_far.is_whole() {
+        return Err(Refusal::TextWrong { byte: at });
     }
-    Verdict::Faces {
-        triangles: corners / 3,
-    }
+    Ok(so_far.corners / 3)
 }

@@ -1,4 +1,2 @@
 -- Laws for the proofs of the functions.
-pub mod Backwards
 pub mod Judging
-pub mod Texts

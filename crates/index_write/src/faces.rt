@@ -1,56 +1,46 @@
 // Faces put into a buffer, each after the one before it.
-ghost use Rattle.std.specs.Prelude.{◌≡◌};
+#![tactic(auto, unfolding(theory::specs::Index::gap, theory::specs::Index::face_text, theory::specs::Index::faces_text, theory::specs::Index::index_text))]
+
+ghost use Rattle.std.specs.Prelude.{◌≡◌, ◌≤◌, length};
 ghost use Rattle.theory.specs.Calls.{written};
-ghost use Rattle.theory.specs.Index.{minus_one, gap, face_text, faces_text};
+ghost use Rattle.theory.specs.Index.{gap, face_text, index_text};
 ghost use Rattle.frames_write.specs.Putting.{Room, Put};
-ghost use Rattle.index_write.specs.Writing.{FaceLent, FacesLent};
+ghost use Rattle.index_write.specs.Writing.{FaceLent};
 
 use super::digits::put_corner;
+use frames_write::puts::Writer;
 use lists::at;
 
-// Puts the blank before face k, which the first one has not, and answers the place after it.
-fn put_gap(out: &mut [u8], place: usize, k: usize) -> usize
-    requires { Room (gap k) out.old place }
-    ensures { Put (gap k) out.old place result out.new }
+// Puts the blank before face k, which the first one has not.
+fn put_gap(out: &mut Writer, k: usize)
+    requires { Room (gap k) out.old }
+    ensures { Put (gap k) out.old out.new }
 {
-    if k == 0 {
-        return place;
+    if k > 0 {
+        out.put_byte(b' ');
     }
-    out[place] = b' ';
-    place + 1
 }
 
-// Puts the -1 that closes a face, and answers the place after it.
-fn put_close(out: &mut [u8], place: usize) -> usize
-    requires { Room minus_one out.old place }
-    ensures { Put minus_one out.old place result out.new }
+// Puts face k, with the -1 that closes it.
+fn put_face(out: &mut Writer, list: &[u16], k: usize)
+    requires { FaceLent k list.now out.old }
+    ensures { Put (face_text list.now k) out.old out.new }
 {
-    out[place] = b'-';
-    out[place + 1] = b'1';
-    place + 2
+    put_gap(out, k);
+    put_corner(out, at(list, 3 * k));
+    put_corner(out, at(list, 3 * k + 1));
+    put_corner(out, at(list, 3 * k + 2));
+    out.put_byte(b'-');
+    out.put_byte(b'1');
 }
 
-// Puts face k, and answers the place after it.
-fn put_face(out: &mut [u8], place: usize, list: &[u16], k: usize) -> usize
-    requires { FaceLent k list.now out.old place }
-    ensures { Put (face_text list.now k) out.old place result out.new }
+// Writes the text of the faces to the front of `out`.
+pub(crate) fn write_faces(out: &mut [u8], list: &[u16])
+    requires { length (index_text list.now) ≤ length out.old }
+    ensures { out.new ≡ written (index_text list.now) out.old }
 {
-    let first = put_gap(out, place, k);
-    let second = put_corner(out, first, at(list, 3 * k));
-    let third = put_corner(out, second, at(list, 3 * k + 1));
-    let last = put_corner(out, third, at(list, 3 * k + 2));
-    put_close(out, last)
-}
-
-// Writes the text of the first faces to the front of `out`.
-pub(crate) fn write_faces(out: &mut [u8], list: &[u16], triangles: usize)
-    requires { FacesLent triangles list.now out.old }
-    ensures { out.new ≡ written (faces_text list.now triangles) out.old }
-{
-    let mut next = 0;
-    let mut k = 0;
-    while k < triangles {
-        next = put_face(out, next, list, k);
-        k += 1;
+    let mut writer = Writer::new(out);
+    for k in 0..list.len() / 3 {
+        put_face(&mut writer, list, k);
     }
 }

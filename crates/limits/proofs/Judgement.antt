@@ -1,5 +1,6 @@
 -- The judgement by a list of rows: the first row is given, or it is not and the others judge; of two lists one after
--- the other the second judges where the first is passed; and the last row may be said in other words.
+-- the other the second judges where the first is passed; and the last row may be said in other words. Then what a
+-- result says, and what a `?` on it leaves.
 use Prim.Native.Nat.{ℕ, ◌<◌}
 use native.Mathlib.Omega.{arith}
 use mathlib.Core.Path.{◌≡◌, refl}
@@ -8,7 +9,10 @@ use mathlib.Core.List.{List, [], ◌∷◌, ◌++◌}
 use Rattle.theory.specs.Refusals.{Rule, NoPlace, LeastPlace, Passed, Refused}
 use Rattle.theory.proofs.Refusals.{at-place-0, least_number, refused-above, refused-by-front}
 use Rattle.theory.proofs.Refusals.{passed-either, refused-either}
-use Rattle.limits.specs.Judged.{Judged, passes, fails}
+use Rattle.std.specs.Prelude.{Result, Ok, Err, IsErrAnd}
+use Rattle.limits.specs.declared.refusal.Refusal.{Refusal}
+use Rattle.limits.specs.Numbers.{number_of, place_of}
+use Rattle.limits.specs.Judged.{Judged, JudgedAs, passes, fails}
 
 -- ---- the first row
 
@@ -82,3 +86,30 @@ pub judged-either : (front : List Rule) (number : ℕ) {verdict place : ℕ} {on
 judged-either front number there back (passes p) = passes (passed-either number there back [] front p)
 judged-either front number {verdict} {place} there back (fails f) =
     fails (refused-either number there back [] front verdict place f)
+
+-- ---- of a result
+
+-- every refusal has a number above 0
+pub number-above : (refusal : Refusal) → 0 < number_of refusal
+number-above refusal = grind arith
+
+-- where the result is accepted, all rows are passed
+pub judged-ok : {rules : List Rule} → Judged rules 0 0 → 0 < least_number rules → Passed rules
+judged-ok verdict l = judged-passed verdict refl l
+
+-- and a refusal is theirs
+pub judged-err : {rules : List Rule} (refusal : Refusal) → JudgedAs rules (Err refusal)
+    → Refused rules (number_of refusal) (place_of refusal)
+judged-err refusal verdict = judged-refused verdict (λ e. omega (arith, number-above refusal))
+
+-- after a `?`, the rows that come later judge
+pub judged-then : (front : List Rule) {back : List Rule} {number place : ℕ} → Judged front 0 0 → 0 < least_number front
+    → Judged back number place → Judged (front ++ back) number place
+judged-then front verdict l later = judged-back front (judged-ok verdict l) later
+
+-- and where it returns, its refusal is that of all
+pub judged-exit : {front : List Rule} (back : List Rule) (refusal : Refusal) (result : Result Unit Refusal)
+    → JudgedAs front (Err refusal) → IsErrAnd result (λ e. e ≡ refusal) → JudgedAs (front ++ back) result
+judged-exit back refusal (Ok accepted) verdict none = absurd none
+judged-exit back refusal (Err same) verdict e =
+    rw e (judged-front back verdict (λ z. omega (arith, number-above refusal)))

@@ -1,2 +1,3 @@
--- The judgement by rows of the table of refusals.
+-- The refusals' numbers and places, and the judgement by rows of the table of refusals.
 pub mod Judged
+pub mod Numbers

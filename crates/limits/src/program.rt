@@ -2,18 +2,19 @@
 ghost use Rattle.std.specs.Prelude.{◌≡◌, [], ◌∷◌};
 ghost use Rattle.theory.specs.Limits.{program_triangles, program_vertices};
 ghost use Rattle.theory.specs.Refusals.{input_too_long};
-ghost use Rattle.limits.specs.Judged.{Judged};
+ghost use Rattle.limits.specs.Judged.{JudgedAs};
 
 use super::limits::Limits;
+use super::refusal::Refusal;
 
-// 13 of an input of so many bytes; 0 where it is not given.
-pub fn judge_bytes(bytes: usize) -> u64
-    ensures { Judged (input_too_long bytes ∷ []) result 0 }
+// 13 of an input of so many bytes; `Ok` where it is not given.
+pub fn judge_bytes(bytes: usize) -> Result<(), Refusal>
+    ensures { JudgedAs (input_too_long bytes ∷ []) result }
 {
     if Limits::PROGRAM_BYTES < bytes as u64 {
-        return 13;
+        return Err(Refusal::InputTooLong);
     }
-    0
+    Ok(())
 }
 
 // The most triangles that the program has room for.

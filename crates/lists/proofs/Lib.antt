@@ -1,5 +1,6 @@
 -- Laws for the proofs of the functions, and for whoever calls them.
 pub mod Lists
+pub mod Places
 pub mod Stores
 pub mod Tables
 pub mod Marks

@@ -2,17 +2,19 @@
 use Rattle.std.specs.Prelude.{ℕ, ◌≤◌, ◌<◌, ◌≡◌, Bool, true, ◌⊎◌, List, length}
 use Rattle.theory.specs.Mesh.{at}
 
--- What is lent for n keys: keys inside the table, and a value for each.
-pub record KeysLent (n : ℕ) (keys table values : List ℕ) : Type 0 where
+-- What is lent for n keys: keys inside the table, and as many values at least.
+pub record ValuesLent (n : ℕ) (keys table : List ℕ) (count : ℕ) : Type 0 where
   pub keyed : n ≤ length keys
   pub inside : (p : ℕ) → p < n → at keys p < length table
-  pub valued : n ≤ length values
+  pub valued : n ≤ count
+
+-- The same where the values are the entries of a list.
+abbrev pub KeysLent : ℕ → List ℕ → List ℕ → List ℕ → Type 0
+KeysLent n keys table values = ValuesLent n keys table (length values)
 
 -- The same where the values are the indices themselves, within 16 bits.
-pub record InvertLent (n : ℕ) (keys table : List ℕ) : Type 0 where
-  pub keyed : n ≤ length keys
-  pub inside : (p : ℕ) → p < n → at keys p < length table
-  pub small : n ≤ 65536
+abbrev pub InvertLent : ℕ → List ℕ → List ℕ → Type 0
+InvertLent n keys table = ValuesLent n keys table 65536
 
 -- After n values `value p` have been put at their keys: an entry is one of the values of its key, or as it was where
 -- no key hits it.

@@ -1,8 +1,8 @@
--- The least index with a property.
-use Rattle.std.specs.Prelude.{ℕ, ◌≤◌, ◌<◌}
+-- The least place at which something is given.
+use Rattle.std.specs.Prelude.{ℕ, ◌<◌, Option, Some, None}
 
--- The least place below n at which something is given, or n if there is none.
-pub record Place (given : ℕ → Type 0) (n place : ℕ) : Type 0 where
-  pub within : place ≤ n
-  pub here : place < n → given place
-  pub before : (earlier : ℕ) → earlier < place → given earlier → ⊥
+-- The answer is the least place below n at which something is given, or that there is none.
+pub data Least (given : ℕ → Type 0) (n : ℕ) : Option ℕ → Type 0 where
+  found : {place : ℕ} → place < n → given place → ((earlier : ℕ) → earlier < place → given earlier → ⊥)
+      → Least given n (Some place)
+  none : ((place : ℕ) → place < n → given place → ⊥) → Least given n None

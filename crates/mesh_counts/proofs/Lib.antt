@@ -1,3 +1,2 @@
 -- Laws for the proofs of the functions.
 pub mod Rings
-pub mod Turns

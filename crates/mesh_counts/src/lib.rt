@@ -1,52 +1,40 @@
 // How many edges a mesh has, and how many of them are boundary edges, by the rings of its edges. Each count goes once
-// over the half-edges, in 16 bits, as wide as the links, so that a processor compares several at a time. Assumes
-// nothing.
+// over the half-edges, in 16 bits, as wide as the links, so that a processor compares several at a time. Every table
+// stands at the front of a slice that the caller lends, which may be longer: a count beside it says how long it is.
+// Assumes nothing.
 #![tactic(auto)]
 
 ghost use Rattle.std.specs.Prelude.{◌≡◌, leb, eqb};
-ghost use Rattle.theory.specs.Counting.{bit};
 ghost use Rattle.theory.specs.Splitting.{edges, boundary_edges};
-ghost use Rattle.mesh_counts.specs.Counts.{CountLent, CountOf};
+ghost use Rattle.mesh_counts.specs.Counts.{CountLent, CountOf, PassingOf};
 
 // How many edges the first `halves` half-edges are on, where `ring` has the rings of the edges: each edge has one last
-// half-edge, from which the ring leads back.
+// half-edge, from which the ring leads back, to itself or to an earlier one.
 pub fn count_edges(ring: &[u16], halves: usize) -> usize
     requires { CountLent halves ring.now }
     ensures { CountOf edges halves ring.now result }
 {
-    let mut edges: u16 = 0;
-    let mut h = 0;
-    while h < halves {
-        edges += leads_back(h as u16, ring[h]);
-        h += 1;
-    }
-    edges as usize
+    count_passing(ring, halves, |next, h| next <= h)
 }
 
-// How many of these are boundary edges: the half-edge of one triangle is alone on its ring.
+// How many of these are boundary edges: the half-edge of one triangle is alone on its ring, which leads to itself.
 pub fn count_boundary(ring: &[u16], halves: usize) -> usize
     requires { CountLent halves ring.now }
     ensures { CountOf boundary_edges halves ring.now result }
 {
-    let mut edges: u16 = 0;
-    let mut h = 0;
-    while h < halves {
-        edges += leads_to_itself(h as u16, ring[h]);
-        h += 1;
+    count_passing(ring, halves, |next, h| next == h)
+}
+
+// How many of the first `halves` half-edges pass the test, which is told where the ring leads from a half-edge, and
+// the half-edge.
+fn count_passing<F: Fn(u16, u16) -> bool>(ring: &[u16], halves: usize, passes: F) -> usize
+    requires lent { CountLent halves ring.now }
+    requires callable { F.IsAlwaysCallable passes }
+    ensures { PassingOf (F.post passes) halves ring.now result }
+{
+    let mut count: u16 = 0;
+    for (h, next) in ring[..halves].iter().enumerate() {
+        count += u16::from(passes(*next, h as u16));
     }
-    edges as usize
-}
-
-// 1 where the ring leads from half-edge h to itself or to an earlier one.
-fn leads_back(h: u16, next: u16) -> u16
-    ensures { result ≡ bit (leb next h) }
-{
-    if next <= h { 1 } else { 0 }
-}
-
-// 1 where the ring leads from half-edge h to itself.
-fn leads_to_itself(h: u16, next: u16) -> u16
-    ensures { result ≡ bit (eqb next h) }
-{
-    if next == h { 1 } else { 0 }
+    count as usize
 }

@@ -1,4 +1,4 @@
 -- Laws for the proofs of the functions.
 pub mod Twins
 pub mod Search
-pub mod Equal
+pub mod Tables

@@ -7,7 +7,9 @@ use mathlib.Core.Logic.{◌≢◌}
 use mathlib.Core.List.{List}
 use lib.ListN.{length, length-set, set}
 use Rattle.theory.specs.Mesh.{at}
-use Rattle.lists.specs.Places.{Place}
+use Rattle.std.proofs.Common.{Some, None}
+use Rattle.lists.specs.Places.{Least}
+use Rattle.lists.specs.Places.Least.{found, none}
 use Rattle.lists.proofs.Lists.{by-eq, by-lt, at_set}
 use Rattle.mesh_rings.specs.Ring.{FollowsBy, RingBy}
 use Rattle.mesh_rings.proofs.Facts.{back-two}
@@ -27,13 +29,12 @@ module _ {n : ℕ} {key : ℕ → ℕ} {thirds : List ℕ} where
       }
 
   -- where all are, it is the least
-  pub least-all : {least : ℕ} → LeastBefore n key thirds n least → Place (HasTwin key thirds) n least
-  least-all L =
-      record {
-        within = L.within;
-        here = L.here;
-        before = λ x l t. L.before x l (λ g p q e. absurd (omega arith)) t;
-      }
+  pub least-some : {least : ℕ} → LeastBefore n key thirds n least → least < n → Least (HasTwin key thirds) n (Some least)
+  least-some L l = found l (L.here l) (λ x b t. L.before x b (λ g p q e. absurd (omega arith)) t)
+
+  -- and where there is none, there is none
+  pub least-nothing : {least : ℕ} → LeastBefore n key thirds n least → n ≤ least → Least (HasTwin key thirds) n None
+  least-nothing L l = none (λ x b t. L.before x (omega arith) (λ g p q e. absurd (omega arith)) t)
 
   -- the lesser of two half-edges that have a twin has one
   min-twin : {a b : ℕ} → (a < n → HasTwin key thirds a) → HasTwin key thirds b → min a b < n

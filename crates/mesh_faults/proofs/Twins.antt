@@ -12,7 +12,9 @@ use Rattle.theory.specs.Splitting.{next, first_on}
 use Rattle.theory.specs.Refusals.{SameAsEarlier}
 use Rattle.theory.proofs.Corners.{before, missed-corner}
 use Rattle.theory.proofs.Splitting.{SameEdge, same_edge-sym, Side, side-same_edge, edge-side, first_on-cong}
-use Rattle.lists.specs.Places.{Place}
+use Rattle.std.proofs.Common.{Option, option_map}
+use Rattle.lists.specs.Places.{Least}
+use Rattle.lists.proofs.Places.{least-third}
 use Rattle.lists.specs.Tables.{Tabulated}
 use Rattle.lists.proofs.Lists.{by-eq}
 use Rattle.mesh_rings.specs.Tables.{third, Different}
@@ -137,10 +139,7 @@ module _ (T : List ℕ) (F : ℕ) {thirds : List ℕ} (whole : length T ≡ 3 * 
       t = same-twin (record { whole = whole; inside = omega arith; triangle = omega arith }) (apart k l) S.same
 
   -- so the least half-edge with a twin before it tells the least such triangle
-  pub least-same : {r : ℕ} → Place (HasTwin (first_on T) thirds) (3 * F) r → Place (SameAsEarlier T) F (r / 3)
-  least-same {r} P =
-      record {
-        within = omega (arith, P.within);
-        here = λ l. twin-same_as_earlier (omega arith) (P.here (omega arith));
-        before = λ k l S. P.before (3 * k) (omega arith) (same_as_earlier-twin (omega (arith, P.within)) S);
-      }
+  pub least-same : {r : Option ℕ} → Least (HasTwin (first_on T) thirds) (3 * F) r
+      → Least (SameAsEarlier T) F (option_map (λ h. h / 3) r)
+  least-same =
+      least-third (λ h l t. twin-same_as_earlier l t) (λ k l S. (3 * k, omega arith, same_as_earlier-twin l S))

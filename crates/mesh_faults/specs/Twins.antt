@@ -1,8 +1,8 @@
 -- Twins: half-edges with the same edge and the same third vertex; and what the search for the least one with a twin
 -- before it is lent and does. A key tells the edge of a half-edge.
-use Rattle.std.specs.Prelude.{ℕ, ◌+◌, ◌≤◌, ◌<◌, min, ◌≡◌, ◌≢◌, List, length, set}
+use Rattle.std.specs.Prelude.{ℕ, ◌+◌, ◌≤◌, ◌<◌, min, ◌≡◌, ◌≢◌, List, length, set, Option}
 use Rattle.theory.specs.Mesh.{at}
-use Rattle.lists.specs.Places.{Place}
+use Rattle.lists.specs.Places.{Least}
 use Rattle.mesh_rings.specs.Ring.{RingBy}
 
 -- Half-edge x has a twin below b.
@@ -31,9 +31,9 @@ pub record TwinsLent (n : ℕ) (ring thirds stamp : List ℕ) : Type 0 where
   pub room : TwinRoom n ring thirds stamp
   pub fresh : (h : ℕ) → h < n → at stamp (at thirds h) ≡ n
 
--- Whatever key the rings are by, the answer is the least half-edge with a twin before it, or n.
-pub record TwinFound (n : ℕ) (ring thirds : List ℕ) (answer : ℕ) : Type 0 where
-  pub found : (key : ℕ → ℕ) → RingBy n key ring → Place (HasTwin key thirds) n answer
+-- Whatever key the rings are by, the answer is the least half-edge with a twin before it.
+pub record TwinFound (n : ℕ) (ring thirds : List ℕ) (answer : Option ℕ) : Type 0 where
+  pub found : (key : ℕ → ℕ) → RingBy n key ring → Least (HasTwin key thirds) n answer
 
 -- Of the half-edges whose edges end before h, the least with a twin before it; n where there is none.
 pub record LeastBefore (n : ℕ) (key : ℕ → ℕ) (thirds : List ℕ) (h least : ℕ) : Type 0 where
@@ -41,13 +41,13 @@ pub record LeastBefore (n : ℕ) (key : ℕ → ℕ) (thirds : List ℕ) (h leas
   pub here : least < n → HasTwin key thirds least
   pub before : (x : ℕ) → x < least → ((g : ℕ) → h ≤ g → g < n → key g ≡ key x → ⊥) → HasTwin key thirds x → ⊥
 
--- What `twin_at` is lent: half-edge h, and no stamp from h up at a third vertex, but n.
+-- What `look_at` is lent: half-edge h, and no stamp from h up at a third vertex, but n.
 pub record TwinLent (h n : ℕ) (ring thirds stamp : List ℕ) : Type 0 where
   pub room : TwinRoom n ring thirds stamp
   pub inside : h < n
   pub fresh : (g x : ℕ) → h ≤ g → g < n → x < n → at stamp (at thirds x) ≢ g
 
--- What `twin_on_ring` is lent: the same, where h is the last on its edge, and others are before it.
+-- What `walk_to` is lent: the same, where h is the last on its edge, and others are before it.
 pub record LastLent (h n : ℕ) (ring thirds stamp : List ℕ) : Type 0 where
   pub lent : TwinLent h n ring thirds stamp
   pub last : at ring h < h

@@ -1,186 +1,172 @@
-// The faults of a mesh that refusals 6 to 9 report: for each the least place, or the number of places where there is
-// none. Every table lives in a slice that the caller lends. It rests on the loops of `lists` and the tables of
-// `mesh_rings`, takes time linear in vertices and triangles, whatever the mesh, and assumes nothing.
+// The faults of a mesh that refusals 6 to 9 report: for each the least place, if there is one. Every table stands at
+// the front of a slice that the caller lends, which may be longer: a count beside it says how long it is. It rests on
+// the loops of `lists` and the tables of `mesh_rings`, takes time linear in vertices and triangles, whatever the mesh,
+// and assumes nothing.
 #![tactic(auto)]
 
 ghost use Rattle.std.specs.Prelude.{◌*◌};
 ghost use Rattle.theory.specs.Refusals.{CornerNotBelow, EqualCorners, SameAsEarlier, InNoTriangle};
-ghost use Rattle.lists.specs.Places.{Place};
+ghost use Rattle.lists.specs.Places.{Least};
 ghost use Rattle.mesh_faults.specs.Faults.{Whole, HasEqual, SameLent, UsedLent, MarksLent, UsedMarks};
-ghost use Rattle.mesh_faults.specs.Twins.{
-  TwinsLent,
-  TwinFound,
-  TwinLent,
-  LastLent,
-  TwinMet,
-  MeetLent,
-  Met,
-};
+ghost use Rattle.mesh_faults.specs.Twins.{TwinsLent, TwinFound, MeetLent, Met};
+ghost use Rattle.mesh_faults.specs.Looks.{SameTables, LookLent, WalkLent, Looked};
 
-use lists::{at, fill, first_zero, lesser};
+use lists::{at, fill, first_zero};
 use mesh_rings::ends::third_vertices;
+use mesh_rings::mesh::Mesh;
 
-// 6: the least triangle with a corner that is not below `vertices`.
-pub fn corner_not_below(list: &[u16], vertices: usize, triangles: usize) -> usize
-    requires { Whole triangles list.now }
-    ensures { Place (CornerNotBelow vertices list.now) triangles result }
+// 6: the least triangle with a corner that is not below the vertices.
+pub fn corner_not_below(mesh: Mesh<'_>) -> Option<usize>
+    requires { Whole mesh.triangles mesh.list.now }
+    ensures { Least (CornerNotBelow mesh.entry.vertices mesh.entry.list.now) mesh.entry.triangles
+        result }
 {
-    let mut c = 0;
-    while c < 3 * triangles {
-        if vertices <= at(list, c) {
-            return c / 3;
-        }
-        c += 1;
-    }
-    triangles
+    let vertices = mesh.vertices;
+    mesh.list[..3 * mesh.triangles]
+        .iter()
+        .position(|corner| vertices <= *corner as usize)
+        .map(|c| c / 3)
 }
 
 // 7: the least triangle with two equal corners.
-pub fn equal_corners(list: &[u16], triangles: usize) -> usize
-    requires { Whole triangles list.now }
-    ensures { Place (EqualCorners list.now) triangles result }
+pub fn equal_corners(mesh: Mesh<'_>) -> Option<usize>
+    requires { Whole mesh.triangles mesh.list.now }
+    ensures { Least (EqualCorners mesh.entry.list.now) mesh.entry.triangles result }
 {
-    let mut k = 0;
-    while k < triangles {
+    let list = mesh.list;
+    for k in 0..mesh.triangles {
         if has_equal(list[3 * k], list[3 * k + 1], list[3 * k + 2]) {
-            return k;
+            return Some(k);
         }
-        k += 1;
     }
-    triangles
+    None
 }
 
 // Whether two of three vertices are equal.
-#[tactic(auto, using(crate::proofs::Equal::first_equal, crate::proofs::Equal::second_equal, crate::proofs::Equal::last_decides))]
 pub fn has_equal(a: u16, b: u16, c: u16) -> bool
     ensures { HasEqual a b c result }
 {
-    if a == b {
-        return true;
-    }
-    if b == c {
-        return true;
-    }
-    c == a
+    a == b || b == c || c == a
 }
 
 // 8: the least triangle that is the same as an earlier one. Two triangles are the same if they have an edge and the
 // third vertex in common, so the least half-edge with an earlier twin tells.
 pub fn same_as_earlier(
-    list: &[u16],
-    vertices: usize,
-    triangles: usize,
+    mesh: Mesh<'_>,
     ring: &[u16],
     thirds: &mut [u16],
     stamp: &mut [u16],
-) -> usize
-    requires { SameLent vertices triangles list.now ring.now thirds.old stamp.old }
-    ensures { Place (SameAsEarlier list.now) triangles result }
+) -> Option<usize>
+    requires { SameLent mesh.vertices mesh.triangles mesh.list.now ring.now thirds.old stamp.old }
+    ensures { Least (SameAsEarlier mesh.entry.list.now) mesh.entry.triangles result }
 {
-    third_vertices(list, triangles, thirds);
-    fill(stamp, vertices, (3 * triangles) as u16);
-    least_twin(3 * triangles, ring, thirds, stamp) / 3
+    third_vertices(mesh, thirds);
+    fill(stamp, mesh.vertices, (3 * mesh.triangles) as u16);
+    least_twin(3 * mesh.triangles, ring, thirds, stamp).map(|h| h / 3)
 }
 
-// The least of n half-edges with a twin before it, a half-edge with the same edge and the same third vertex; n where
-// there is none. `stamp` holds n for each third vertex.
-fn least_twin(n: usize, ring: &[u16], thirds: &[u16], stamp: &mut [u16]) -> usize
+// The least of n half-edges with a twin before it, a half-edge with the same edge and the same third vertex. `stamp`
+// holds n for each third vertex, which stands for none: an entry of a lent table has 16 bits, and no room for an Option.
+fn least_twin(n: usize, ring: &[u16], thirds: &[u16], stamp: &mut [u16]) -> Option<usize>
     requires { TwinsLent n ring.now thirds.now stamp.old }
     ensures { TwinFound n ring.now thirds.now result }
 {
+    let mut search = TwinSearch {
+        n,
+        ring,
+        thirds,
+        stamp,
+    };
     let mut least = n;
-    let mut h = 0;
-    while h < n {
-        least = twin_at(h, n, ring, thirds, least, stamp);
-        h += 1;
+    for h in 0..n {
+        least = search.look_at(h, least);
     }
-    least
+    if least < n { Some(least) } else { None }
 }
 
-// The lesser of `least` and the least twin on the edge that ends its ring at half-edge h: where h is the last on its
-// edge, the others are looked at, one of two at once.
-fn twin_at(
-    h: usize,
+// The search for the least of n half-edges with a twin before it. Its methods take the least that was found so far, n
+// where none was, and answer that with what they found: an Option would be one more branch at every half-edge.
+#[derive(Drop)]
+struct TwinSearch<'a> {
     n: usize,
-    ring: &[u16],
-    thirds: &[u16],
-    least: usize,
-    stamp: &mut [u16],
-) -> usize
-    requires { TwinLent h n ring.now thirds.now stamp.old }
-    ensures { TwinMet h n ring.now thirds.now least stamp.old result
-        stamp.new }
-{
-    let next = at(ring, h);
-    if at(ring, next) == h {
-        if thirds[next] == thirds[h] {
-            if next < h {
-                return lesser(least, h);
+    ring: &'a [u16],
+    thirds: &'a [u16],
+    stamp: &'a mut [u16],
+}
+
+impl TwinSearch<'_> {
+    // Looks at the edge that ends its ring at half-edge h: where h is the last on its edge, the others are looked at, one
+    // of two at once.
+    fn look_at(&mut self, h: usize, least: usize) -> usize
+        requires { LookLent h self.old }
+        ensures same { SameTables self.old self.new }
+        ensures looked { Looked h least self.old result self.new }
+    {
+        let next = at(self.ring, h);
+        if at(self.ring, next) == h {
+            if self.thirds[next] == self.thirds[h] {
+                if next < h {
+                    return least.min(h);
+                }
             }
+            return least;
         }
-        return least;
+        if h < next {
+            return least;
+        }
+        self.walk_to(h, least)
     }
-    if h < next {
-        return least;
-    }
-    twin_on_ring(h, n, ring, thirds, least, stamp)
-}
 
-// The same on an edge with three and more half-edges, of which h is the last, from the first to h. `stamp[v]` is h
-// where one of those before has the third vertex v.
-fn twin_on_ring(
-    h: usize,
-    n: usize,
-    ring: &[u16],
-    thirds: &[u16],
-    least: usize,
-    stamp: &mut [u16],
-) -> usize
-    requires { LastLent h n ring.now thirds.now stamp.old }
-    ensures { TwinMet h n ring.now thirds.now least stamp.old result
-        stamp.new }
-{
-    let mut found = least;
-    let mut x = at(ring, h);
-    while x < h {
-        found = meet(x, h, thirds, found, stamp);
-        x = at(ring, x);
+    // Looks at an edge with three and more half-edges, of which h is the last, from the first to h. `stamp[v]` is h where
+    // one of those before has the third vertex v.
+    fn walk_to(&mut self, h: usize, least: usize) -> usize
+        requires { WalkLent h self.old }
+        ensures same { SameTables self.old self.new }
+        ensures looked { Looked h least self.old result self.new }
+    {
+        let mut found = least;
+        let mut x = at(self.ring, h);
+        while x < h {
+            found = self.meet(x, h, found);
+            x = at(self.ring, x);
+        }
+        self.meet(h, h, found)
     }
-    meet(h, h, thirds, found, stamp)
-}
 
-// Meets half-edge x of the ring that ends at h: where its third vertex was met before, x is a twin.
-fn meet(x: usize, h: usize, thirds: &[u16], least: usize, stamp: &mut [u16]) -> usize
-    requires { MeetLent x h thirds.now stamp.old }
-    ensures { Met x h thirds.now least stamp.old result stamp.new }
-{
-    let v = at(thirds, x);
-    let met = at(stamp, v);
-    stamp[v] = h as u16;
-    if met == h {
-        return lesser(least, x);
+    // Meets half-edge x of the ring that ends at h: where its third vertex was met before, x is a twin.
+    fn meet(&mut self, x: usize, h: usize, least: usize) -> usize
+        requires { MeetLent x h self.old.thirds.now self.old.stamp.now }
+        ensures same { SameTables self.old self.new }
+        ensures met { Met x h self.old.thirds.now least self.old.stamp.now result self.new.stamp.now }
+    {
+        let v = at(self.thirds, x);
+        let met = self.stamp[v] as usize;
+        self.stamp[v] = h as u16;
+        if met == h {
+            return least.min(x);
+        }
+        least
     }
-    least
 }
 
 // 9: the least vertex in no triangle.
-pub fn in_no_triangle(list: &[u16], vertices: usize, triangles: usize, marks: &mut [u16]) -> usize
-    requires { UsedLent vertices triangles list.now marks.old }
-    ensures { Place (InNoTriangle vertices list.now) vertices result }
+pub fn in_no_triangle(mesh: Mesh<'_>, marks: &mut [u16]) -> Option<usize>
+    requires { UsedLent mesh.vertices mesh.triangles mesh.list.now marks.old }
+    ensures { Least (InNoTriangle mesh.entry.vertices mesh.entry.list.now) mesh.entry.vertices
+        result }
 {
-    fill(marks, vertices, 0);
-    mark_used(list, vertices, triangles, marks);
-    first_zero(marks, vertices)
+    fill(marks, mesh.vertices, 0);
+    mark_used(mesh, marks);
+    first_zero(marks, mesh.vertices)
 }
 
 // Marks the vertices of the triangles, on marks that are all 0.
-pub fn mark_used(list: &[u16], vertices: usize, triangles: usize, marks: &mut [u16])
-    requires { MarksLent vertices triangles list.now marks.old }
-    ensures { UsedMarks vertices list.now (3 * triangles) marks.new }
+pub fn mark_used(mesh: Mesh<'_>, marks: &mut [u16])
+    requires { MarksLent mesh.vertices mesh.triangles mesh.list.now marks.old }
+    ensures { UsedMarks mesh.entry.vertices mesh.entry.list.now (3 * mesh.entry.triangles)
+        marks.new }
 {
-    let mut c = 0;
-    while c < 3 * triangles {
-        marks[at(list, c)] = 1;
-        c += 1;
+    for corner in &mesh.list[..3 * mesh.triangles] {
+        marks[*corner as usize] = 1;
     }
 }

@@ -1,10 +1,11 @@
 -- The judgement of a mesh by the rows of document 01's table of refusals.
-use Rattle.std.specs.Prelude.{ℕ, ◌*◌, ◌/◌, ◌≤◌, ◌<◌, ◌≡◌, List, [], ◌∷◌, length}
+use Rattle.std.specs.Prelude.{ℕ, ◌*◌, ◌/◌, ◌≤◌, ◌<◌, ◌≡◌, List, [], ◌∷◌, length, Result, OnOk}
 use Rattle.theory.specs.Mesh.{at, triangles}
 use Rattle.theory.specs.Splitting.{first_on}
 use Rattle.theory.specs.Refusals.{Rule, Passed, corner_not_below, equal_corners}
 use Rattle.theory.specs.Refusals.{same_as_earlier, in_no_triangle, not_connected, mesh_rules}
-use Rattle.limits.specs.Judged.{Judged}
+use Rattle.limits.specs.declared.refusal.Refusal.{Refusal}
+use Rattle.limits.specs.Judged.{JudgedAs}
 use Rattle.mesh_rings.specs.Ring.{RingBy}
 use Rattle.mesh_rings.specs.Tables.{Work}
 use Rattle.mesh_faults.specs.Faults.{Whole}
@@ -39,8 +40,8 @@ pub record TrianglesLent (N F : ℕ) (T ring work1 work2 work3 work4 : List ℕ)
   pub corners : Passed (corner_rules N T)
 
 -- It judges 8 and 9, and leaves the rings of the edges.
-pub record TrianglesJudged (N F : ℕ) (T ring : List ℕ) (number place : ℕ) : Type 0 where
-  pub verdict : Judged (triangle_rules N T) number place
+pub record TrianglesJudged (N F : ℕ) (T ring : List ℕ) (result : Result Unit Refusal) : Type 0 where
+  pub verdict : JudgedAs (triangle_rules N T) result
   pub ringed : RingBy (3 * F) (first_on T) ring
 
 -- `judge_connected` is lent a list, one triangle at least, whose triangles have three different corners, the rings of
@@ -57,6 +58,6 @@ pub record ConnectLent (T ring marks queue opened : List ℕ) : Type 0 where
   pub opened_room : 3 * triangles T ≤ length opened
 
 -- `judge` judges 6 to 10, and where these are passed it leaves the rings of the edges.
-pub record MeshJudged (N F : ℕ) (T ring : List ℕ) (number place : ℕ) : Type 0 where
-  pub verdict : Judged (mesh_rules N T) number place
-  pub ringed : number ≡ 0 → RingBy (3 * F) (first_on T) ring
+pub record MeshJudged (N F : ℕ) (T ring : List ℕ) (result : Result Unit Refusal) : Type 0 where
+  pub verdict : JudgedAs (mesh_rules N T) result
+  pub ringed : OnOk result (RingBy (3 * F) (first_on T) ring)

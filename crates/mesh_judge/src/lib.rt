@@ -3,83 +3,54 @@
 // which search for each fault. It takes time linear in vertices and triangles, whatever the mesh, and assumes nothing.
 #![tactic(auto)]
 
-ghost use Rattle.limits.specs.Judged.{Judged};
+ghost use Rattle.limits.specs.Judged.{JudgedAs};
 ghost use Rattle.mesh_faults.specs.Faults.{Whole};
 ghost use Rattle.mesh_judge.specs.Judging.{corner_rules, connected_rules, JudgeLent, TrianglesLent};
 ghost use Rattle.mesh_judge.specs.Judging.{TrianglesJudged, ConnectLent, MeshJudged};
 
+use limits::refusal::Refusal;
 use lists::first_zero;
 use mesh_faults::{corner_not_below, equal_corners, in_no_triangle, same_as_earlier};
 use mesh_reach::reach;
+use mesh_rings::mesh::Mesh;
 use mesh_rings::ring::ring_table;
 
-// A refusal's number and place, or 0 and 0 where none is given.
-#[derive(Drop)]
-pub struct Verdict {
-    pub number: u64,
-    pub place: u64,
-}
-
 // 6 and 7, which look at each triangle by itself.
-fn judge_corners(list: &[u16], vertices: usize, triangles: usize) -> Verdict
-    requires { Whole triangles list.now }
-    ensures { Judged (corner_rules vertices list.now) result.number result.place }
+fn judge_corners(mesh: Mesh<'_>) -> Result<(), Refusal>
+    requires { Whole mesh.triangles mesh.list.now }
+    ensures { JudgedAs (corner_rules mesh.entry.vertices mesh.entry.list.now) result }
 {
-    let k = corner_not_below(list, vertices, triangles);
-    if k < triangles {
-        return Verdict {
-            number: 6,
-            place: k as u64,
-        };
+    if let Some(triangle) = corner_not_below(mesh) {
+        return Err(Refusal::CornerNotBelow { triangle });
     }
-    let k = equal_corners(list, triangles);
-    if k < triangles {
-        return Verdict {
-            number: 7,
-            place: k as u64,
-        };
+    if let Some(triangle) = equal_corners(mesh) {
+        return Err(Refusal::EqualCorners { triangle });
     }
-    Verdict {
-        number: 0,
-        place: 0,
-    }
+    Ok(())
 }
 
 // 8 and 9, with the rings of the edges, which stay in `ring`.
 fn judge_triangles(
-    list: &[u16],
-    vertices: usize,
-    triangles: usize,
+    mesh: Mesh<'_>,
     ring: &mut [u16],
     work1: &mut [u16],
     work2: &mut [u16],
     work3: &mut [u16],
     work4: &mut [u16],
-) -> Verdict
-    requires { TrianglesLent vertices triangles list.now ring.old work1.old work2.old work3.old
-        work4.old }
-    ensures { TrianglesJudged vertices triangles list.now ring.new result.number
-        result.place }
+) -> Result<(), Refusal>
+    requires { TrianglesLent mesh.vertices mesh.triangles mesh.list.now ring.old work1.old work2.old
+        work3.old work4.old }
+    ensures { TrianglesJudged mesh.entry.vertices mesh.entry.triangles mesh.entry.list.now ring.new
+        result }
 {
-    ring_table(list, vertices, triangles, work1, work2, work3, work4, ring);
-    let k = same_as_earlier(list, vertices, triangles, ring, work1, work2);
-    if k < triangles {
-        return Verdict {
-            number: 8,
-            place: k as u64,
-        };
+    ring_table(mesh, work1, work2, work3, work4, ring);
+    if let Some(triangle) = same_as_earlier(mesh, ring, work1, work2) {
+        return Err(Refusal::SameAsEarlier { triangle });
     }
-    let v = in_no_triangle(list, vertices, triangles, work3);
-    if v < vertices {
-        return Verdict {
-            number: 9,
-            place: v as u64,
-        };
+    if let Some(vertex) = in_no_triangle(mesh, work3) {
+        return Err(Refusal::InNoTriangle { vertex });
     }
-    Verdict {
-        number: 0,
-        place: 0,
-    }
+    Ok(())
 }
 
 // 10, which looks for a triangle that is not connected to triangle 0.
@@ -89,48 +60,33 @@ pub fn judge_connected(
     marks: &mut [u16],
     queue: &mut [u16],
     opened: &mut [u16],
-) -> Verdict
+) -> Result<(), Refusal>
     requires { ConnectLent list.now ring.now marks.old queue.old opened.old }
-    ensures { Judged (connected_rules list.now) result.number result.place }
+    ensures { JudgedAs (connected_rules list.now) result }
 {
     let triangles = list.len() / 3;
     reach(0, triangles, ring, marks, queue, opened);
-    let k = first_zero(marks, triangles);
-    if k < triangles {
-        return Verdict {
-            number: 10,
-            place: k as u64,
-        };
-    }
-    Verdict {
-        number: 0,
-        place: 0,
+    match first_zero(marks, triangles) {
+        Some(triangle) => Err(Refusal::NotConnected { triangle }),
+        None => Ok(()),
     }
 }
 
 // 6 to 10. Where none is given, `ring` holds the rings of the edges.
 pub fn judge(
-    list: &[u16],
-    vertices: usize,
-    triangles: usize,
+    mesh: Mesh<'_>,
     ring: &mut [u16],
     work1: &mut [u16],
     work2: &mut [u16],
     work3: &mut [u16],
     work4: &mut [u16],
-) -> Verdict
-    requires { JudgeLent vertices triangles list.now ring.old work1.old work2.old work3.old
-        work4.old }
-    ensures { MeshJudged vertices triangles list.now ring.new result.number
-        result.place }
+) -> Result<(), Refusal>
+    requires { JudgeLent mesh.vertices mesh.triangles mesh.list.now ring.old work1.old work2.old
+        work3.old work4.old }
+    ensures { MeshJudged mesh.entry.vertices mesh.entry.triangles mesh.entry.list.now ring.new
+        result }
 {
-    let v = judge_corners(list, vertices, triangles);
-    if v.number != 0 {
-        return v;
-    }
-    let v = judge_triangles(list, vertices, triangles, ring, work1, work2, work3, work4);
-    if v.number != 0 {
-        return v;
-    }
-    judge_connected(list, ring, work1, work2, work3)
+    judge_corners(mesh)?;
+    judge_triangles(mesh, ring, work1, work2, work3, work4)?;
+    judge_connected(mesh.list, ring, work1, work2, work3)
 }

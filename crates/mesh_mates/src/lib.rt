@@ -1,5 +1,6 @@
-// The other half-edge on an edge of two, by the rings of the edges: the table of mates that an undo goes by. It takes
-// time linear in the half-edges, and assumes nothing.
+// The other half-edge on an edge of two, by the rings of the edges: the table of mates that an undo goes by. Every
+// table stands at the front of a slice that the caller lends, which may be longer: a count beside it says how long it
+// is. It takes time linear in the half-edges, and assumes nothing.
 #![tactic(auto)]
 
 ghost use Rattle.std.specs.Prelude.{◌<◌, length};
@@ -10,16 +11,14 @@ use lists::at;
 use mesh_rings::ring::chosen;
 
 // For each of n half-edges the other one on its edge where there are two: itself where it is alone, and `n` where
-// there are three and more.
+// there are three and more. The table is the caller's, 16 bits an entry, which leaves no room for an enum.
 pub fn others(ring: &[u16], n: usize, other: &mut [u16])
     requires { OthersLent n ring.now other.old }
     ensures { OthersOf n ring.now other.new }
 {
-    let mut h = 0;
-    while h < n {
+    for h in 0..n {
         let next = at(ring, h);
         other[h] = chosen(at(ring, next), h, next, n) as u16;
-        h += 1;
     }
 }
 

@@ -2,4 +2,4 @@
 pub mod Joins
 pub mod Rounds
 pub mod Queues
-pub mod Search
+pub mod Spreading

@@ -124,10 +124,6 @@ module _ {low high : ℕ → ℕ} where
 abbrev pub spliced : List ℕ → ℕ → ℕ → List ℕ
 spliced ring p h = set (set (set ring h h) h (at (set ring h h) p)) p h
 
--- joining keeps the length
-pub length-spliced : (ring : List ℕ) (p h : ℕ) → length (spliced ring p h) ≡ length ring
-length-spliced ring p h = simp length-set
-
 -- p leads to h, h to where p led, and any other index to where it led
 pub at-spliced : (P : ℕ → Type 0) (ring : List ℕ) (p h k : ℕ) → p < length ring → h < length ring → (k ≡ p → P h)
     → (k ≢ p → k ≡ h → P (at ring p)) → (k ≢ p → k ≢ h → P (at ring k)) → P (at (spliced ring p h) k)

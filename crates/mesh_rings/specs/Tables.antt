@@ -7,6 +7,11 @@ pub record PerHalfEdge (F : ℕ) (T table : List ℕ) : Type 0 where
   pub listed : 3 * F ≤ length T
   pub roomy : 3 * F ≤ length table
 
+-- What `answer` says of the vertices at the corners of each of the F triangles of T are the entries of its half-edges.
+pub record EntriesOf (answer : ℕ → ℕ → ℕ → ℕ × ℕ × ℕ → Type 0) (g : ℕ → ℕ) (F : ℕ) (T : List ℕ) : Type 0 where
+  pub entries : (k : ℕ) (three : ℕ × ℕ × ℕ) → k < F → answer (at T (3 * k)) (at T (3 * k + 1)) (at T (3 * k + 2)) three
+      → (three.0 ≡ g (3 * k)) × (three.1 ≡ g (3 * k + 1)) × (three.2 ≡ g (3 * k + 2))
+
 -- The vertex of its triangle that half-edge h does not touch.
 abbrev pub third : List ℕ → ℕ → ℕ
 third T h = at T (3 * (h / 3) + (h + 2) % 3)

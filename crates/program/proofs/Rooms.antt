@@ -6,6 +6,7 @@ use mathlib.Core.Path.{◌≡◌, refl, ap}
 use mathlib.Core.Logic.{inl, inr}
 use mathlib.Core.List.{List, [], ◌∷◌, map}
 use lib.ListN.{length, drop, replicate}
+use Rattle.std.specs.Prelude.{Result}
 use Rattle.theory.specs.Limits.{any_role, program_triangles, program_vertices}
 use Rattle.theory.specs.Mesh.{at, triangles}
 use Rattle.theory.specs.Refusals.{Short, Passed, Refused}
@@ -13,11 +14,12 @@ use Rattle.theory.specs.Calls.{Outputs, work_entries, work_rooms, undo_one_rooms
 use Rattle.theory.specs.Calls.{undo_one_size_rules, undo_one_mesh_rules, undo_one_rules}
 use Rattle.theory.specs.Program.{program_rooms}
 use Rattle.theory.proofs.Refusals.{passed-either, refused-either}
-use Rattle.limits.specs.Judged.{Judged}
+use Rattle.limits.specs.declared.refusal.Refusal.{Refusal}
+use Rattle.limits.specs.Judged.{JudgedAs}
 use Rattle.limits.proofs.Judgement.{judged-either}
+use Rattle.answers.specs.Answers.{outputs}
 use Rattle.undo_role.specs.Buffers.{Buffers}
 use Rattle.calls_undo_one.specs.Undoing.{works, UndoLent}
-use Rattle.program.specs.Answering.{OutputRoom, WorkRoom}
 
 -- ---- rooms
 
@@ -57,6 +59,21 @@ module _ (N F : ℕ) where
     short_back (inr (inr (inl l))) = inr (inr (inl (omega arith)))
     short_back (inr (inr (inr short))) = absurd short
 
+-- Output buffers with the program's room.
+pub record OutputRoom (out : Outputs) : Type 0 where
+  pub mesh : length out.mesh ≡ 3 * (program_triangles / 4)
+  pub vertices : length out.vertex_map ≡ program_vertices
+  pub triangles : length out.triangle_map ≡ program_triangles
+
+-- arrays of these lengths have it
+pub arrays-room : OutputRoom
+    (outputs (replicate (3 * (program_triangles / 4)) 0) (replicate program_vertices 0) (replicate program_triangles 0))
+arrays-room = record { mesh = omega arith; vertices = omega arith; triangles = omega arith }
+
+-- Work buffers that are long enough for every mesh that the outputs have room for.
+pub record WorkRoom (works : List (List ℕ)) : Type 0 where
+  pub long : map length works ≡ replicate (length (map length works)) program_work
+
 -- ---- rows
 
 module _ (N : ℕ) (T : List ℕ) {out : Outputs} (room : OutputRoom out) (works : List (List ℕ)) (enough : WorkRoom works)
@@ -86,12 +103,12 @@ module _ (N : ℕ) (T : List ℕ) {out : Outputs} (room : OutputRoom out) (works
         number place f
 
 -- what is judged by the lengths of the program's arrays is judged by what is lent
-pub program-lent : {N : ℕ} {T : List ℕ} {asked number : ℕ} {out : Outputs} {b : Buffers} → OutputRoom out
-    → WorkRoom (works b)
-    → Judged (undo_one_size_rules N (length T) asked (undo_one_rooms N (length T / 3) (3 * (program_triangles / 4))
-    program_vertices program_triangles (program_work ∷ []))) number 0
-    → UndoLent number N T asked out b
-program-lent {N} {T} {asked} {b = b} room enough judged = record {
+pub program-lent : {sized : Result Unit Refusal} {N : ℕ} {T : List ℕ} {asked : ℕ} {out : Outputs} {b : Buffers}
+    → OutputRoom out → WorkRoom (works b)
+    → JudgedAs (undo_one_size_rules N (length T) asked (undo_one_rooms N (length T / 3) (3 * (program_triangles / 4))
+    program_vertices program_triangles (program_work ∷ []))) sized
+    → UndoLent sized N T asked out b
+program-lent {N = N} {T} {asked} {b = b} room enough judged = record {
   judged =
       judged-either (undo_number_rules any_role N (length T) asked) 5
       (λ short. lent_back N T room (works b) enough

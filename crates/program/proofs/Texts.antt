@@ -1,25 +1,13 @@
--- The text of a reading: its parts, and how long it is.
+-- How long the text of a reading is.
 use Prim.Native.Nat.{ℕ, ◌+◌, ◌*◌}
 use native.Mathlib.Omega.{arith}
 use mathlib.Core.Path.{◌≡◌}
-use mathlib.Core.List.{List, [], ◌∷◌, append_assoc, append-nil}
 use lib.ListN.{length, length-append}
 use Rattle.theory.specs.Mesh.{triangles}
 use Rattle.theory.specs.Reading.{Reading}
-use Rattle.theory.specs.Frames.{frames}
-use Rattle.theory.specs.Program.{answer_line, map_lines, reading_text}
+use Rattle.theory.specs.Program.{reading_text}
 use Rattle.theory.proofs.Frames.{frames-length}
-use Rattle.frames_write.proofs.Appends.{flat, answer_line-length, map_lines-length}
-
--- the parts one after the other
-abbrev pub reading_parts : ℕ → Reading → List (List ℕ)
-reading_parts role r =
-    answer_line 0 role 0 ∷ frames r.vertices r.mesh
-    ∷ map_lines 0x56 r.vertex_map ∷ map_lines 0x54 r.triangle_map ∷ []
-
-pub reading_text-parts : (role : ℕ) (r : Reading) → reading_text role r ≡ flat (reading_parts role r)
-unfolding reading_text flat
-reading_text-parts role r = simp (append_assoc, append-nil)
+use Rattle.frames_write.proofs.Appends.{answer_line-length, map_lines-length}
 
 -- eleven bytes for the answer, the coarse mesh's frames, and seven for each entry of the maps
 pub reading_text-length : (role : ℕ) (r : Reading)

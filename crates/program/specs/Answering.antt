@@ -1,7 +1,11 @@
 -- What the program lends and what is printed: everything has room for 1,024 triangles and 1,026 vertices.
-use Rattle.std.specs.Prelude.{ℕ, ◌+◌, ◌*◌, ◌/◌, ◌≤◌, ◌≡◌, List, map, length, take, drop, replicate}
+use Rattle.std.specs.Prelude.{ℕ, ◌+◌, ◌*◌, ◌/◌, ◌≤◌, ◌≡◌, List, length, take, drop, Result, Ok, Err}
 use Rattle.theory.specs.Limits.{program_triangles, program_vertices}
-use Rattle.theory.specs.Calls.{OneAnswer, Outputs, work_entries, UndoesOne}
+use Rattle.theory.specs.Program.{answer_line}
+use Rattle.limits.specs.declared.refusal.Refusal.{Refusal}
+use Rattle.limits.specs.Numbers.{number_of, place_of}
+use Rattle.frames_write.specs.declared.puts.Writer.{Writer}
+use Rattle.frames_write.specs.Putting.{Put}
 
 -- ---- the text
 
@@ -19,25 +23,25 @@ pub record Printed (right : List ℕ → Type 0) (text : List ℕ) (r : ℕ) (te
   pub short : r ≤ longest_text
   pub stays : drop r text' ≡ drop r text
 
--- ---- the undo
+-- ---- what came of an input
 
--- Output buffers with the program's room.
-pub record OutputRoom (out : Outputs) : Type 0 where
-  pub mesh : length out.mesh ≡ 3 * (program_triangles / 4)
-  pub vertices : length out.vertex_map ≡ program_vertices
-  pub triangles : length out.triangle_map ≡ program_triangles
+-- There is room for the longest text from the writer's place on.
+pub record TextRoom (w : Writer) : Type 0 where
+  pub fits : w.place + longest_text ≤ length w.bytes.now
 
--- Work buffers that are long enough for every mesh that the outputs have room for.
-pub record WorkRoom (works : List (List ℕ)) : Type 0 where
-  pub long : map length works ≡ replicate (length (map length works)) (work_entries program_vertices program_triangles)
+-- A right text was put.
+pub record TextPut (right : List ℕ → Type 0) (w w' : Writer) : Type 0 where
+  pub text : List ℕ
+  pub is : right text
+  pub short : length text ≤ longest_text
+  pub put : Put text w w'
 
--- What undo one did in these buffers, to be printed.
-pub record UndoneLent (N : ℕ) (T : List ℕ) (asked : ℕ) (answer : OneAnswer) (out' : Outputs) (text : List ℕ) : Type 0 where
-  pub out : Outputs
-  pub works : List (List ℕ)
-  pub works' : List (List ℕ)
-  pub undoes : UndoesOne N T asked out works answer out' works'
-  pub out_room : OutputRoom out
-  pub work_room : WorkRoom works
-  pub out_room' : OutputRoom out'
-  pub text_room : TextLent text
+-- Nothing was put, and the refusal's line is the right text.
+pub record TextLeft (right : List ℕ → Type 0) (refusal : Refusal) (w w' : Writer) : Type 0 where
+  pub is : right (answer_line (number_of refusal) 0 (place_of refusal))
+  pub stays : w' ≡ w
+
+-- What came of an input or of a mesh.
+abbrev pub Answered : (right : List ℕ → Type 0) → Writer → Result Unit Refusal → Writer → Type 0
+Answered right w (Ok done) w' = TextPut right w w'
+Answered right w (Err refusal) w' = TextLeft right refusal w w'

@@ -1,3 +1,2 @@
 -- What the parts of the program's answer are lent and do.
-pub mod Printing
 pub mod Answering

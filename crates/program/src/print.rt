@@ -1,31 +1,30 @@
 // The text of an accepted mesh.
 ghost use Rattle.theory.specs.Program.{reading_text};
-ghost use Rattle.frames_write.specs.Putting.{Put};
-ghost use Rattle.answers.specs.Taken.{reading_in};
-ghost use Rattle.program.specs.Printing.{ReadingLent};
+ghost use Rattle.frames_write.specs.Putting.{Room, Put};
 
+use frames_write::puts::Writer;
 use frames_write::text::{put_answer, put_map};
 use frames_write::writing::put_frames;
 
-// Prints a reading in a role: the coarse mesh has so many kept vertices and centres, and its corners are the first of
-// `mesh`; the two maps are the first entries of `map` and `faces`, one for each vertex and each triangle of the input.
+// Prints a reading in a role: a coarse mesh of so many vertices, whose corners are `mesh`, and the two maps.
+#[tactic(auto, using(std::proofs::lemmas::Grind::common_steps), unfolding(theory::specs::Program::reading_text))]
 pub(crate) fn print_reading(
-    text: &mut [u8],
+    out: &mut Writer,
     role: usize,
-    kept: usize,
-    centres: usize,
-    mesh: &[u16],
     vertices: usize,
-    map: &[u16],
-    triangles: usize,
-    faces: &[u16],
-) -> usize
-    requires { ReadingLent role kept centres mesh.now vertices map.now triangles faces.now text.old }
-    ensures { Put (reading_text role (reading_in vertices triangles kept centres mesh.now
-        map.now faces.now)) text.old 0 result text.new }
+    mesh: &[u16],
+    vertex_map: &[u16],
+    triangle_map: &[u16],
+)
+    requires { Room (reading_text role
+        (record { vertices = vertices; mesh = mesh.now; vertex_map = vertex_map.now; triangle_map = triangle_map.now }))
+        out.old }
+    ensures { Put (reading_text role
+        (record { vertices = vertices; mesh = mesh.now; vertex_map = vertex_map.now; triangle_map = triangle_map.now }))
+        out.old out.new }
 {
-    let second = put_answer(text, 0, 0, role, 0);
-    let third = put_frames(text, second, kept, mesh, centres);
-    let last = put_map(text, third, 0x56, map, vertices);
-    put_map(text, last, 0x54, faces, triangles)
+    put_answer(out, 0, role, 0);
+    put_frames(out, vertices, mesh);
+    put_map(out, 0x56, vertex_map);
+    put_map(out, 0x54, triangle_map);
 }

@@ -1,5 +1,6 @@
 // The splitting of a mesh: the numbers of the edge vertices in order of first appearance, and the four triangles that
-// each triangle becomes. Both go once over the half-edges. Assumes nothing.
+// each triangle becomes. Both go once over the half-edges. Every table stands at the front of a slice that the caller
+// lends, which may be longer: a count beside it says how long it is. Assumes nothing.
 #![tactic(auto)]
 
 ghost use Rattle.std.specs.Prelude.{◌≡◌, ℕ, ◌+◌, ◌*◌};
@@ -23,16 +24,15 @@ pub fn number_edges(vertices: usize, halves: usize, ring: &[u16], numbers: &mut 
     number_all(vertices, halves, ring, numbers)
 }
 
-// The same where no half-edge has a number yet, which a number above all that are given says.
+// The same where no half-edge has a number yet, which a number above all that are given says: the table is the
+// caller's, 16 bits an entry, which leaves no room for an `Option`.
 fn number_all(vertices: usize, halves: usize, ring: &[u16], numbers: &mut [u16]) -> usize
     requires { UnnumberedLent vertices halves ring.now numbers.old }
     ensures { Numbered vertices halves ring.now result numbers.new }
 {
     let mut edges = 0;
-    let mut h = 0;
-    while h < halves {
+    for h in 0..halves {
         edges = number(h, at(ring, h), vertices + halves, vertices, edges, numbers);
-        h += 1;
     }
     edges
 }
@@ -64,10 +64,8 @@ pub fn write_fours(list: &[u16], triangles: usize, numbers: &[u16], out: &mut [u
     ensures { (N : ℕ) → Tabulated (edge_no N list.now) (3 * triangles) numbers.now
         → out.new ≡ written (split N list.now) out.old }
 {
-    let mut k = 0;
-    while k < triangles {
+    for k in 0..triangles {
         write_four(list, k, numbers, out);
-        k += 1;
     }
 }
 

@@ -1,17 +1,18 @@
 -- How triangles compare: one by its three vertices, and the triangles up to one by those before it and that one.
-use Prim.Native.Nat.{ℕ, ◌+◌, ◌*◌, ◌≤◌, ◌<◌, min}
+use Prim.Native.Nat.{ℕ, ◌+◌, ◌*◌, ◌≤◌, ◌<◌}
 use native.Mathlib.Omega.{arith}
-use mathlib.Core.Path.{◌≡◌, refl}
-use mathlib.Core.Logic.{◌≢◌}
+use mathlib.Core.Path.{◌≡◌}
 use mathlib.Core.List.{List}
+use Rattle.std.specs.Prelude.{Option, Some, None, Ok, Err}
+use Rattle.std.specs.Option.{option_or}
 use lib.ListN.{length}
 use borrow.Author.Count.{below_more}
 use Rattle.theory.specs.Mesh.{at, Same, Rotated}
 use Rattle.theory.specs.Reading.{renamed}
 use Rattle.theory.proofs.Rotation.{rotated-implies}
-use Rattle.undo_compare.specs.Compared.{AllAgree, Compared, agree, inside_out, turned_with}
+use Rattle.undo_compare.specs.Compared.{AllAgree, Compared, agree, inside_out, differ}
 use Rattle.undo_compare.specs.Compared.{ComparedOne, ComparedThree}
-use Rattle.undo_compare.specs.declared.Comparison.TheVariants as comparison
+use Rattle.undo_compare.specs.declared.Mismatch.TheVariants as mismatch
 use Rattle.undo_compare.specs.declared.Turning.{Turning}
 use Rattle.undo_compare.specs.declared.Turning.TheVariants as turning
 use Rattle.undo_compare.proofs.Threes.{AtCorners, three-same, same-three, three-rotated, rotated-three}
@@ -29,57 +30,55 @@ module _ (T S : List ℕ) (k t : ℕ) (l : 3 * k + 3 ≤ length T) (m : 3 * t + 
 
 -- ---- all triangles
 
--- The least of the triangles before k that is no rotation of its own is `turned`, or this is F, where each is one.
-pub data LeastTurned (F k : ℕ) (T f g S : List ℕ) : ℕ → Type 0 where
-  none : AllAgree Rotated k T f g S → LeastTurned F k T f g S F
+-- The least of the triangles before k that is no rotation of its own; none, where each is one.
+pub data LeastTurned (k : ℕ) (T f g S : List ℕ) : Option ℕ → Type 0 where
+  never : AllAgree Rotated k T f g S → LeastTurned k T f g S None
   first : {j : ℕ} → j < k → (Rotated (renamed f T) j S (at g j) → ⊥) → AllAgree Rotated j T f g S
-      → LeastTurned F k T f g S j
+      → LeastTurned k T f g S (Some j)
 
 -- The triangles before k have the vertices of their own, and the least that is no rotation is known.
-pub record SameBefore (F k : ℕ) (T f g S : List ℕ) (turned : ℕ) : Type 0 where
+pub record SameBefore (k : ℕ) (T f g S : List ℕ) (turned : Option ℕ) : Type 0 where
   pub same : AllAgree Same k T f g S
-  pub least : LeastTurned F k T f g S turned
+  pub least : LeastTurned k T f g S turned
 
--- A triangle that compares so has the vertices of its own.
-abbrev pub Alike : Turning → Type 0
-Alike turning.Rotated = Unit {0}
-Alike turning.Reversed = Unit {0}
-Alike turning.Other = ⊥
+module _ {k t : ℕ} {T f g S : List ℕ} (e : t ≡ at g k) where
+  -- where triangle k has other vertices than its own, not all have the vertices of their own
+  pub other-found : {F : ℕ} → k < F → ComparedOne (renamed f T) k S t turning.Other
+      → Compared F T f g S (Err mismatch.Differ)
+  other-found l (ComparedOne.other n) = differ (λ all. n (rw e (all k l)))
 
-module _ {F k : ℕ} {T f g S : List ℕ} {turned : ℕ} (B : SameBefore F k T f g S turned) where
-  -- where triangle k has the vertices of its own, the triangles up to it have
-  pub same_more : {how : Turning} → k < F → ComparedOne (renamed f T) k S (at g k) how → Alike how
-      → SameBefore F (k + 1) T f g S (turned_with turned k how)
-  same_more l C o = record { same = below_more _ _ B.same (same C o); least = least C o B.least }
-    where
-      same : {how : Turning} → ComparedOne (renamed f T) k S (at g k) how → Alike how → Same (renamed f T) k S (at g k)
-      same (ComparedOne.rotated r) _ = rotated-implies.same r
-      same (ComparedOne.reversed s _) _ = s
-      same (ComparedOne.other _) o = absurd o
+  module _ {turned : Option ℕ} (B : SameBefore k T f g S turned) where
+    -- where it is a rotation, the least stays
+    pub rotated-more : ComparedOne (renamed f T) k S t turning.Rotated → SameBefore (k + 1) T f g S turned
+    rotated-more (ComparedOne.rotated r) =
+        record { same = below_more _ _ B.same (rw e at (rotated-implies.same r)); least = stays B.least }
+      where
+        stays : {before : Option ℕ} → LeastTurned k T f g S before → LeastTurned (k + 1) T f g S before
+        stays (never all) = never (below_more _ _ all (rw e at r))
+        stays (first b n all) = first (omega arith) n all
 
-      least : {how : Turning} {before : ℕ} → ComparedOne (renamed f T) k S (at g k) how → Alike how
-          → LeastTurned F k T f g S before → LeastTurned F (k + 1) T f g S (turned_with before k how)
-      least (ComparedOne.rotated r) _ (none all) = none (below_more _ _ all r)
-      least (ComparedOne.rotated r) _ (first {j} b n all) = first {j = j} (omega arith) n all
-      least (ComparedOne.reversed _ m) _ (none all) =
-          let this : min F k ≡ k = omega arith in rw this (first {j = k} (omega arith) m all)
-      least (ComparedOne.reversed _ _) _ (first {j} b n all) =
-          let stays : min j k ≡ j = omega arith in rw stays (first {j = j} (omega arith) n all)
-      least (ComparedOne.other _) o _ = absurd o
+    -- where it only has the vertices of its own, it is the least, if there was none
+    pub reversed-more : ComparedOne (renamed f T) k S t turning.Reversed
+        → SameBefore (k + 1) T f g S (option_or turned (Some k))
+    reversed-more (ComparedOne.reversed s m) =
+        record { same = below_more _ _ B.same (rw e at s); least = found B.least }
+      where
+        found : {before : Option ℕ} → LeastTurned k T f g S before
+            → LeastTurned (k + 1) T f g S (option_or before (Some k))
+        found (never all) = first (omega arith) (rw e at m) all
+        found (first b n all) = first (omega arith) n all
 
-module _ {F : ℕ} {T f g S : List ℕ} {turned : ℕ} (B : SameBefore F F T f g S turned) where
+module _ {F k : ℕ} {T f g S : List ℕ} {turned : Option ℕ} (B : SameBefore k T f g S turned) (end : F ≤ k) where
   -- where none of all is turned, they agree
-  pub none-turned : turned ≡ F → Compared F T f g S comparison.Agree
-  none-turned e = go B.least e
+  pub none-turned : turned ≡ None → Compared F T f g S (Ok tt)
+  none-turned e = go (rw e at B.least)
     where
-      go : {j : ℕ} → LeastTurned F F T f g S j → j ≡ F → Compared F T f g S comparison.Agree
-      go (none all) _ = agree all
-      go (first b _ _) e = absurd (omega (arith, e))
+      go : LeastTurned k T f g S None → Compared F T f g S (Ok tt)
+      go (never all) = agree (λ j l. all j (omega arith))
 
   -- and else the least is the one to be named
-  pub one-turned : turned ≢ F → Compared F T f g S (comparison.InsideOut turned)
-  one-turned n = go B.least n
+  pub one-turned : {j : ℕ} → k ≤ F → turned ≡ Some j → Compared F T f g S (Err (mismatch.InsideOut j))
+  one-turned {j} l e = go (rw e at B.least)
     where
-      go : {j : ℕ} → LeastTurned F F T f g S j → j ≢ F → Compared F T f g S (comparison.InsideOut j)
-      go (none _) n = absurd (n refl)
-      go (first {j} b n before) _ = inside_out {k = j} B.same b n before
+      go : LeastTurned k T f g S (Some j) → Compared F T f g S (Err (mismatch.InsideOut j))
+      go (first b n before) = inside_out (λ i m. B.same i (omega arith)) (omega arith) n before

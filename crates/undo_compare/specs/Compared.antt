@@ -1,10 +1,10 @@
 -- The comparison of triangles: what `compare` says of all of them, `compare_one` of one, `compare_three` of three
 -- vertices and three others, and `same_vertices` of these as sets.
-use Rattle.std.specs.Prelude.{ℕ, ◌+◌, ◌*◌, ◌/◌, ◌≤◌, ◌<◌, min, ◌≡◌, ◌≢◌, List, length}
+use Rattle.std.specs.Prelude.{ℕ, ◌+◌, ◌*◌, ◌/◌, ◌≤◌, ◌<◌, ◌≡◌, ◌≢◌, List, length, Result, Ok, Err}
 use Rattle.theory.specs.Mesh.{at, Same, Rotated}
 use Rattle.theory.specs.Reading.{Agreement, renamed}
-use Rattle.undo_compare.specs.declared.Comparison.{Comparison}
-use Rattle.undo_compare.specs.declared.Comparison.TheVariants as comparison
+use Rattle.undo_compare.specs.declared.Mismatch.{Mismatch}
+use Rattle.undo_compare.specs.declared.Mismatch.TheVariants as mismatch
 use Rattle.undo_compare.specs.declared.Turning.{Turning}
 use Rattle.undo_compare.specs.declared.Turning.TheVariants as turning
 
@@ -27,21 +27,15 @@ AllAgree agree F list vertex_map triangle_map splitting =
 
 -- How F triangles compare: all up to rotation of corners; or all by their vertices, and this is the least that does not
 -- up to rotation; or not all by their vertices.
-pub data Compared (F : ℕ) (list vertex_map triangle_map splitting : List ℕ) : Comparison → Type 0 where
+pub data Compared (F : ℕ) (list vertex_map triangle_map splitting : List ℕ) : Result Unit Mismatch → Type 0 where
   agree : AllAgree Rotated F list vertex_map triangle_map splitting
-      → Compared F list vertex_map triangle_map splitting comparison.Agree
+      → Compared F list vertex_map triangle_map splitting (Ok tt)
   inside_out : {k : ℕ} → AllAgree Same F list vertex_map triangle_map splitting → k < F
       → (Rotated (renamed vertex_map list) k splitting (at triangle_map k) → ⊥)
       → AllAgree Rotated k list vertex_map triangle_map splitting
-      → Compared F list vertex_map triangle_map splitting (comparison.InsideOut k)
+      → Compared F list vertex_map triangle_map splitting (Err (mismatch.InsideOut k))
   differ : (AllAgree Same F list vertex_map triangle_map splitting → ⊥)
-      → Compared F list vertex_map triangle_map splitting comparison.Differ
-
--- The least triangle that is the other way round: the one before triangle k, if it is less, or triangle k, if it is so.
-abbrev pub turned_with : (turned k : ℕ) → Turning → ℕ
-turned_with turned k turning.Rotated = turned
-turned_with turned k turning.Reversed = min turned k
-turned_with turned k turning.Other = turned
+      → Compared F list vertex_map triangle_map splitting (Err mismatch.Differ)
 
 -- ---- one triangle
 

@@ -1,26 +1,26 @@
-// The comparison of every input triangle, under the maps, with its triangle of the splitting: up to rotation of corners,
-// and by its vertices. It takes time linear in the triangles, and assumes nothing.
+// The comparison of every input triangle, under the maps, with its triangle of the splitting: up to rotation of
+// corners, and by its vertices. Every table stands at the front of a slice that the caller lends, which may be longer:
+// a count beside it says how long it is. It takes time linear in the triangles, and assumes nothing.
 #![tactic(auto)]
 
-ghost use Rattle.std.specs.Prelude.{◌≡◌};
 ghost use Rattle.theory.specs.Reading.{renamed};
 ghost use Rattle.lists.specs.Decides.{Decides};
-ghost use Rattle.undo_compare.specs.Compared.{CompareLent, Compared, turned_with, OneLent, ComparedOne};
+ghost use Rattle.undo_compare.specs.Compared.{CompareLent, Compared, OneLent, ComparedOne};
 ghost use Rattle.undo_compare.specs.Compared.{Apart, ComparedThree, RotatedThree, Follows, SameThree};
 
-use lists::{at, lesser};
+use lists::at;
 
-// How the triangles of a list compare, under the maps, with their own of the splitting: each is a rotation of its own;
-// or each has the vertices of its own, and the one named is the least that is no rotation; or one has other vertices.
-#[derive(Drop)]
-pub enum Comparison {
-    Agree,
-    InsideOut(usize),
+// Why the triangles of a list are not, each, a rotation of their own of the splitting under the maps: each has the
+// vertices of its own, and the one named is the least that is no rotation; or one has other vertices. (It is not the
+// `NoReading` of `answers`, which this crate stands beside: there a role has none for other reasons too.)
+#[derive(Clone, Copy, PartialEq, Eq)]
+pub enum Mismatch {
+    InsideOut { triangle: usize },
     Differ,
 }
 
 // How one triangle compares with another: a rotation of it, the same vertices in the other turning, or other vertices.
-#[derive(Drop)]
+#[derive(Clone, Copy, PartialEq, Eq)]
 enum Turning {
     Rotated,
     Reversed,
@@ -28,43 +28,30 @@ enum Turning {
 }
 
 // Compares each of the triangles, under the vertex map `vertices`, with its triangle of `splitting`, which the triangle
-// map `faces` names. It stops at the first that has other vertices. `turned` is the least so far that is the other way
-// round, or `triangles` for none.
+// map `faces` names. It stops at the first that has other vertices.
 pub fn compare(
     triangles: usize,
     list: &[u16],
     vertices: &[u16],
     faces: &[u16],
     splitting: &[u16],
-) -> Comparison
+) -> Result<(), Mismatch>
     requires { CompareLent triangles list.now vertices.now faces.now splitting.now }
     ensures { Compared triangles list.now vertices.now faces.now
         splitting.now result }
 {
-    let mut turned = triangles;
-    let mut k = 0;
-    while k < triangles {
-        let turning = compare_one(k, list, vertices, at(faces, k), splitting);
-        if let Turning::Other = turning {
-            return Comparison::Differ;
+    let mut turned = None;
+    for k in 0..triangles {
+        match compare_one(k, list, vertices, at(faces, k), splitting) {
+            Turning::Rotated => {}
+            Turning::Reversed => turned = turned.or(Some(k)),
+            Turning::Other => return Err(Mismatch::Differ),
         }
-        turned = first_turned(turned, k, turning);
-        k += 1;
     }
-    if turned == triangles {
-        return Comparison::Agree;
+    match turned {
+        Some(triangle) => Err(Mismatch::InsideOut { triangle }),
+        None => Ok(()),
     }
-    Comparison::InsideOut(turned)
-}
-
-// The least triangle that is the other way round, where `turned` is that before triangle k, or no less than k for none.
-fn first_turned(turned: usize, k: usize, turning: Turning) -> usize
-    ensures { result ≡ turned_with turned k turning }
-{
-    let Turning::Reversed = turning else {
-        return turned;
-    };
-    lesser(turned, k)
 }
 
 // Compares triangle k, under the vertex map `vertices`, with triangle t of `splitting`.
@@ -86,7 +73,8 @@ fn compare_one(k: usize, list: &[u16], vertices: &[u16], t: usize, splitting: &[
     )
 }
 
-// Compares three vertices with three others, which are different.
+// Compares three vertices with three others, which are different. They are six numbers here and below and no arrays, as
+// the library's calls have no array on the stack but few that are named (`.ci/parts/c`).
 fn compare_three(a: u16, b: u16, c: u16, x: u16, y: u16, z: u16) -> Turning
     requires { Apart x y z }
     ensures { ComparedThree a b c x y z result }

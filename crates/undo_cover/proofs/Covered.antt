@@ -4,14 +4,12 @@ use native.Mathlib.Omega.{arith}
 use mathlib.Core.Path.{◌≡◌}
 use mathlib.Core.List.{List}
 use lib.ListN.{length, take}
-use lib.Seq.{length-take-le}
 use Rattle.theory.specs.Splitting.{first_on}
 use Rattle.lists.specs.Tables.{Tabulated}
 use Rattle.mesh_rings.specs.Tables.{third}
 use Rattle.mesh_rings.specs.Ring.{RingBy}
 use Rattle.mesh_rings.specs.Making.{RingLent}
-use Rattle.mesh_mates.specs.Others.{OthersLent, OthersOf}
-use Rattle.mesh_rings.proofs.Facts.{ring-below}
+use Rattle.mesh_mates.specs.Others.{OthersOf}
 use Rattle.mesh_mates.proofs.Facts.{others-found}
 use Rattle.undo_cover.specs.Tiles.{RowsOf}
 use Rattle.undo_cover.specs.Cover.{CoverLent, CoverMade}
@@ -19,19 +17,6 @@ use Rattle.undo_cover.proofs.Covers.{Tabled, rows-listed}
 
 module _ {N F : ℕ} {T other₀ tiles₀ ring₀ work1 work2 work3 work4 : List ℕ}
     (L : CoverLent N F T other₀ tiles₀ ring₀ work1 work2 work3 work4) where
-  -- the other half-edges are found by the mesh's rings
-  pub cover-others : OthersLent (3 * F) ring₀ other₀
-  cover-others = record {
-    small = L.small;
-    linked = omega (arith, L.ring_room);
-    below = ring-below L.ringed;
-    roomy = omega (arith, L.other_room);
-  }
-
-  -- a list that is as long as the rows' buffer has a front for them
-  pub cover-part : (tiles : List ℕ) → length tiles ≡ length tiles₀ → length (take (3 * F) tiles) ≡ 3 * F
-  cover-part tiles e = length-take-le (3 * F) tiles (omega (arith, L.tiles_room))
-
   module _ {other thirds tiles : List ℕ} (o : OthersOf (3 * F) ring₀ other) (t : Tabulated (third T) (3 * F) thirds)
       (r : RowsOf F other thirds tiles) where
     -- the tables of the mesh

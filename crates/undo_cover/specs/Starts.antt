@@ -24,8 +24,3 @@ pub record StartLent (k F : ℕ) (other rows : List ℕ) : Type 0 where
   pub small : 3 * F < 65536
   pub other_room : 3 * F ≤ length other
   pub rows_room : 3 * F ≤ length rows
-
--- What `tile` is lent: one of F triangles, with its row.
-pub record TileLent (k F : ℕ) (rows : List ℕ) : Type 0 where
-  pub inside : k < F
-  pub rows_room : 3 * F ≤ length rows

@@ -9,15 +9,13 @@ use mesh_faults::has_equal;
 use mesh_mates::has_mate;
 
 // The covering mesh: for each tile the vertices across its edges, at each corner that across the edge which ends
-// there, and 0 three times for any other triangle.
+// there, and 0 three times for any other triangle, as the table has 16 bits an entry.
 pub fn rows(triangles: usize, other: &[u16], thirds: &[u16], rows: &mut [u16])
     requires { RowsLent triangles other.now thirds.now rows.old }
     ensures { RowsOf triangles other.now thirds.now rows.new }
 {
-    let mut k = 0;
-    while k < triangles {
+    for k in 0..triangles {
         row(k, triangles, other, thirds, rows);
-        k += 1;
     }
 }
 
@@ -41,13 +39,9 @@ fn all_mated(k: usize, halves: usize, other: &[u16]) -> bool
     requires { 3 * k + 3 ≤ length other.now }
     ensures { Decides (AllMated halves other.now k) result }
 {
-    if !has_mate(3 * k, halves, other) {
-        return false;
-    }
-    if !has_mate(3 * k + 1, halves, other) {
-        return false;
-    }
-    has_mate(3 * k + 2, halves, other)
+    has_mate(3 * k, halves, other)
+        && has_mate(3 * k + 1, halves, other)
+        && has_mate(3 * k + 2, halves, other)
 }
 
 // Writes a row, if its vertices are different, and else 0 three times.

@@ -1,5 +1,6 @@
 -- What the calls of `undo_least` are lent, each from what it is lent itself and from the calls before, and what a
 -- level comes to: the coarser mesh has a quarter of the triangles and no more vertices.
+use Rattle.std.specs.Prelude.{None, Ok, Err}
 use Prim.Native.Nat.{ℕ, ◌*◌, ◌%◌, ◌≤◌}
 use native.Mathlib.Omega.{arith}
 use mathlib.Core.Path.{◌≡◌}
@@ -9,9 +10,8 @@ use lib.ListN.{length, take, length-take}
 use Rattle.theory.proofs.Finite.{match-size}
 use Rattle.theory.proofs.Determined.{quarter, role-within}
 use Rattle.theory.proofs.OldRule.{no-role-by-old}
-use Rattle.answers.specs.declared.taken.Taken.{Taken}
-use Rattle.answers.specs.declared.taken.Taken.TheVariants as taken
-use Rattle.answers.proofs.Arms.{OtherArm, not-reading}
+use Rattle.answers.specs.declared.taken.RoleRead.{RoleRead}
+use Rattle.answers.specs.declared.taken.NoReading.{NoReading}
 use Rattle.mesh_rings.specs.Making.{RingLent}
 use Rattle.undo_cover.specs.Cover.{CoverLent, CoverMade}
 use Rattle.undo_role.specs.Buffers.{Buffers, Rooms}
@@ -39,21 +39,20 @@ coarser-role C = role-within C.returned.in_role
 
 -- where the triangles are no multiple of four, no role has a reading
 pub level-uneven : {N F : ℕ} {T coarse ring : List ℕ} → Undoable N F T → F % 4 ≢ 0
-    → LevelTried N F T coarse ring taken.Nothing
+    → LevelTried N F T coarse ring None
 level-uneven {F = F} U uneven = none (no-role-by-old (uneven-none F U.whole uneven))
 
 module _ {N F : ℕ} {T coarse map faces : List ℕ} where
   -- where a reading is taken, there is a coarser mesh
-  pub least-found : {role M n : ℕ} → LeastTried N F T coarse map faces (taken.Reading role M n)
-      → Coarser N F T coarse role M n
+  pub least-found : {r : RoleRead} → LeastTried N F T coarse map faces (Ok r)
+      → Coarser N F T coarse r.role r.vertices r.triangles
   least-found (least_found l R) = record { least = l; map = map; faces = faces; returned = R }
 
   -- where none is, no role has a reading, so that nothing is taken of the level
-  pub least-none : {ring : List ℕ} {answer : Taken} → LeastTried N F T coarse map faces answer → OtherArm answer
-      → LevelTried N F T coarse ring taken.Nothing
-  least-none (least_found _ _) o = not-reading o
-  least-none (least_inside_out refuted _ _) _ = none refuted
-  least-none (least_none refuted) _ = none (no-role-by-old refuted)
+  pub least-none : {ring : List ℕ} {why : NoReading} → LeastTried N F T coarse map faces (Err why)
+      → LevelTried N F T coarse ring None
+  least-none (least_inside_out refuted _ _) = none refuted
+  least-none (least_none refuted) = none (no-role-by-old refuted)
 
 module _ {N F : ℕ} {T : List ℕ} {b : Buffers} (L : LevelLent N F T b) where
   -- what `cover` is lent

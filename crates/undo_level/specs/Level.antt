@@ -1,11 +1,10 @@
 -- One level of undo several, by the tables.
-use Rattle.std.specs.Prelude.{ℕ, ◌*◌, List, take}
+use Rattle.std.specs.Prelude.{ℕ, ◌*◌, List, take, Option, Some, None}
 use Rattle.theory.specs.Mesh.{Rotated}
 use Rattle.theory.specs.Splitting.{first_on}
 use Rattle.theory.specs.Reading.{Returned}
 use Rattle.theory.specs.Choice.{LeastRole, NoRole}
-use Rattle.answers.specs.declared.taken.Taken.{Taken}
-use Rattle.answers.specs.declared.taken.Taken.TheVariants as taken
+use Rattle.answers.specs.declared.taken.RoleRead.{RoleRead}
 use Rattle.answers.specs.Taken.{reading_in}
 use Rattle.mesh_rings.specs.Ring.{RingBy}
 use Rattle.undo_role.specs.Buffers.{Buffers, Rooms}
@@ -30,7 +29,7 @@ pub record Coarser (N F : ℕ) (T coarse : List ℕ) (role M n : ℕ) : Type 0 w
   pub returned : Returned Rotated N T role (reading_in N F M n coarse map faces)
 
 -- There is a coarser mesh, and the rings of its edges stand in `ring`; or no role has a reading.
-pub data LevelTried (N F : ℕ) (T coarse ring : List ℕ) : Taken → Type 0 where
+pub data LevelTried (N F : ℕ) (T coarse ring : List ℕ) : Option RoleRead → Type 0 where
   found : {role M n : ℕ} → Coarser N F T coarse role M n → RingBy (3 * n) (first_on (take (3 * n) coarse)) ring
-      → LevelTried N F T coarse ring (taken.Reading role M n)
-  none : NoRole Rotated N T → LevelTried N F T coarse ring taken.Nothing
+      → LevelTried N F T coarse ring (Some (record { role = role; vertices = M; triangles = n }))
+  none : NoRole Rotated N T → LevelTried N F T coarse ring None

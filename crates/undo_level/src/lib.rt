@@ -5,19 +5,18 @@
 ghost use Rattle.undo_role.specs.Buffers.{buffers};
 ghost use Rattle.undo_level.specs.Level.{LevelLent, LevelTried};
 
-use answers::taken::Taken;
+use answers::taken::RoleRead;
+use mesh_rings::mesh::Mesh;
 use mesh_rings::ring::ring_table;
-use undo_cover::cover::cover;
+use undo_cover::cover::{Covering, cover};
 use undo_roles::least_role;
 
 // Undoes a proper mesh, the rings of whose edges stand in `ring`, in the least role that has a reading: the coarse mesh
-// goes to `coarse`, and its rings to `ring`. Nothing is taken where no role has one, as where the triangles are no
+// goes to `coarse`, and its rings to `ring`. None is taken where no role has one, as where the triangles are no
 // multiple of four; whether one has one by the old rule does not matter here. The other buffers hold the covering mesh
 // (`other`, `rows`) and what the roles leave.
 pub fn undo_least(
-    vertices: usize,
-    triangles: usize,
-    list: &[u16],
+    mesh: Mesh<'_>,
     other: &mut [u16],
     rows: &mut [u16],
     ring: &mut [u16],
@@ -27,37 +26,26 @@ pub fn undo_least(
     map: &mut [u16],
     faces: &mut [u16],
     table: &mut [u16],
-) -> Taken
-    requires { LevelLent vertices triangles list.now (buffers other.old rows.old ring.old marks.old
-        coarse.old numbers.old map.old faces.old table.old) }
-    ensures { LevelTried vertices triangles list.now coarse.new ring.new result }
+) -> Option<RoleRead>
+    requires { LevelLent mesh.vertices mesh.triangles mesh.list.now
+        (buffers other.old rows.old ring.old marks.old coarse.old numbers.old map.old faces.old
+        table.old) }
+    ensures { LevelTried mesh.entry.vertices mesh.entry.triangles mesh.entry.list.now coarse.new
+        ring.new result }
 {
-    if triangles % 4 != 0 {
-        return Taken::Nothing;
+    if mesh.triangles % 4 != 0 {
+        return None;
     }
-    cover(
-        vertices, triangles, list, other, rows, ring, marks, coarse, numbers, map,
-    );
-    let taken = least_role(
-        vertices, triangles, list, other, rows, ring, marks, coarse, numbers, map, faces, table,
-    );
-    let Taken::Reading {
-        role: _,
-        vertices: kept,
-        triangles: centres,
-    } = taken
-    else {
-        return Taken::Nothing;
+    cover(mesh, other, rows, ring, marks, coarse, numbers, map);
+    let covering = Covering { other, rows, ring };
+    let Ok(reading) = least_role(mesh, covering, marks, coarse, numbers, map, faces, table) else {
+        return None;
     };
-    ring_table(
-        &coarse[..3 * centres],
-        kept,
-        centres,
-        marks,
-        numbers,
-        map,
-        faces,
-        ring,
-    );
-    taken
+    let coarser = Mesh {
+        vertices: reading.vertices,
+        triangles: reading.triangles,
+        list: &coarse[..3 * reading.triangles],
+    };
+    ring_table(coarser, marks, numbers, map, faces, ring);
+    Some(reading)
 }

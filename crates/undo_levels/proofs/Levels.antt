@@ -1,5 +1,6 @@
 -- What the calls of `undo_levels` are lent, and that a level undone and the levels of the coarser mesh make document
 -- 01's levels.
+use Rattle.std.specs.Prelude.{Some, None}
 use Prim.Native.Nat.{ℕ, suc, ◌+◌, ◌-◌, ◌*◌, ◌≤◌, ◌<◌}
 use native.Mathlib.Omega.{arith}
 use native.Mathlib.Numerals.{add-one}
@@ -12,9 +13,7 @@ use Rattle.theory.specs.Mesh.{Rotated}
 use Rattle.theory.specs.Splitting.{first_on}
 use Rattle.theory.specs.Choice.{NoRole, Several, reached, stopped, undone}
 use Rattle.theory.proofs.Results.{several-at-most}
-use Rattle.answers.specs.declared.taken.Taken.{Taken}
-use Rattle.answers.specs.declared.taken.Taken.TheVariants as taken
-use Rattle.answers.proofs.Arms.{OtherArm, not-reading}
+use Rattle.answers.specs.declared.taken.RoleRead.{RoleRead}
 use Rattle.answers.specs.declared.counts.Counts.{Counts}
 use Rattle.answers.specs.declared.levels.Levels.{Levels}
 use Rattle.answers.specs.Counts.{counts_of, coarse_counts}
@@ -32,20 +31,18 @@ use Rattle.undo_levels.specs.Levels.{LevelsLent, LevelsUndone}
 -- ---- levels
 
 -- where a reading is taken there is a coarser mesh
-pub tried-coarser : {N F : ℕ} {T coarse ring : List ℕ} {role M n : ℕ}
-    → LevelTried N F T coarse ring (taken.Reading role M n) → Coarser N F T coarse role M n
+pub tried-coarser : {N F : ℕ} {T coarse ring : List ℕ} {r : RoleRead} → LevelTried N F T coarse ring (Some r)
+    → Coarser N F T coarse r.role r.vertices r.triangles
 tried-coarser (found C R) = C
 
 -- with the rings of its edges
-tried-rings : {N F : ℕ} {T coarse ring : List ℕ} {role M n : ℕ}
-    → LevelTried N F T coarse ring (taken.Reading role M n) → RingBy (3 * n) (first_on (take (3 * n) coarse)) ring
+tried-rings : {N F : ℕ} {T coarse ring : List ℕ} {r : RoleRead} → LevelTried N F T coarse ring (Some r)
+    → RingBy (3 * r.triangles) (first_on (take (3 * r.triangles) coarse)) ring
 tried-rings (found C R) = R
 
 -- where none is, no role has a reading
-tried-none : {N F : ℕ} {T coarse ring : List ℕ} {answer : Taken} → LevelTried N F T coarse ring answer
-    → OtherArm answer → NoRole Rotated N T
-tried-none (found _ _) o = not-reading o
-tried-none (none no-role) _ = no-role
+tried-none : {N F : ℕ} {T coarse ring : List ℕ} → LevelTried N F T coarse ring None → NoRole Rotated N T
+tried-none (none no-role) = no-role
 
 -- ---- one level more
 
@@ -132,40 +129,39 @@ module _ {allowance : ℕ} {counts : Counts} {list out : List ℕ} {b : Buffers}
   levels-reached z = levels-left (rw z reached)
 
   -- no role has a reading
-  pub levels-stopped : {coarse' ring' out' : List ℕ} {tried : Taken} {answer : Levels} → allowance ≢ 0
-      → LevelTried N F T coarse' ring' tried → OtherArm tried → answer ≡ no_level counts
-      → out' ≡ T ++ drop (3 * F) out → LevelsUndone allowance N T out out' answer
-  levels-stopped more level refused =
+  pub levels-stopped : {coarse' ring' out' : List ℕ} {answer : Levels} → allowance ≢ 0
+      → LevelTried N F T coarse' ring' None → answer ≡ no_level counts → out' ≡ T ++ drop (3 * F) out
+      → LevelsUndone allowance N T out out' answer
+  levels-stopped more level =
       let one_up : allowance ≡ suc (allowance - 1) = omega arith in
-      levels-left (rw one_up (stopped (tried-none level refused)))
+      levels-left (rw one_up (stopped (tried-none level)))
 
   -- ---- the next level
 
   -- no more vertices are kept than there are
-  pub levels-kept : {role M n : ℕ} {coarse ring : List ℕ} → LevelTried N F T coarse ring (taken.Reading role M n)
-      → M ≤ N
+  pub levels-kept : {r : RoleRead} {coarse ring : List ℕ} → LevelTried N F T coarse ring (Some r) → r.vertices ≤ N
   levels-kept tried = kept-at-most L.level.mesh.proper (tried-coarser tried).returned.is
 
   -- so much is counted of the coarser mesh
-  coarser-counted : {role M n : ℕ} {coarse ring : List ℕ} → LevelTried N F T coarse ring (taken.Reading role M n)
-      → length (take (3 * n) coarse) ≡ 3 * n
-      → coarse_counts N counts.boundary M n ≡ counts_of M (take (3 * n) coarse)
-  coarser-counted {M = M} {n} tried long =
-      ap (λ (c : Counts). coarse_counts N c.boundary M n) L.counted
+  coarser-counted : {r : RoleRead} {coarse ring : List ℕ} → LevelTried N F T coarse ring (Some r)
+      → length (take (3 * r.triangles) coarse) ≡ 3 * r.triangles
+      → coarse_counts N counts.boundary r.vertices r.triangles ≡ counts_of r.vertices (take (3 * r.triangles) coarse)
+  coarser-counted {r} tried long =
+      ap (λ (c : Counts). coarse_counts N c.boundary r.vertices r.triangles) L.counted
       ∙ coarse-counted L.level.mesh.proper (tried-coarser tried).returned.is (omega arith)
 
   -- what the levels of the coarser mesh are lent, the list and the coarser mesh having changed places
-  pub levels-lent : {allowance' role M n : ℕ} {counts' : Counts} {b' : Buffers} → allowance' ≤ most_levels
-      → SameLengths b b' → LevelTried N F T b'.coarse b'.ring (taken.Reading role M n)
-      → counts' ≡ coarse_counts N counts.boundary M n
+  pub levels-lent : {allowance' : ℕ} {r : RoleRead} {counts' : Counts} {b' : Buffers} → allowance' ≤ most_levels
+      → SameLengths b b' → LevelTried N F T b'.coarse b'.ring (Some r)
+      → counts' ≡ coarse_counts N counts.boundary r.vertices r.triangles
       → LevelsLent allowance' counts' b'.coarse out
       (buffers b'.other b'.rows b'.ring b'.marks list b'.numbers b'.map b'.faces b'.table)
-  levels-lent {allowance'} {M = M} {n = n} {b' = b'} few K tried counted =
+  levels-lent {allowance'} {r} {b' = b'} few K tried counted =
       let C = tried-coarser tried in
       let S = level-smaller levels-level K C in
       let R = level-rooms levels-level K C in
       let U = level-undoable levels-level K C in
-      let l : M + 3 * n ≤ N + 3 * F = omega (arith, S.fewer, S.fourth) in
+      let l : r.vertices + 3 * r.triangles ≤ N + 3 * F = omega (arith, S.fewer, S.fourth) in
       subst (λ (c : Counts). LevelsLent allowance' c b'.coarse out
       (buffers b'.other b'.rows b'.ring b'.marks list b'.numbers b'.map b'.faces b'.table))
       (sym counted)

@@ -1,6 +1,7 @@
 // Undo several: a mesh is undone level by level, each in the least role that has a reading. The function calls itself
-// on the quarter-size mesh, with one level less allowed. Every table lives in a slice that the caller lends. It takes
-// time linear in vertices and triangles at each level, and assumes nothing.
+// on the quarter-size mesh, with one level less allowed. Every table stands at the front of a slice that the caller
+// lends, which may be longer: a count beside it says how long it is. It takes time linear in vertices and triangles at
+// each level, and assumes nothing.
 #![tactic(auto)]
 
 ghost use Rattle.std.specs.Prelude.{◌*◌, take};
@@ -9,7 +10,7 @@ ghost use Rattle.undo_levels.specs.Levels.{LevelsLent, LevelsUndone};
 
 use answers::counts::{Counts, coarse_counts};
 use answers::levels::{Levels, one_more, stop};
-use answers::taken::Taken;
+use mesh_rings::mesh::Mesh;
 use undo_level::undo_least;
 
 // Undoes at most `allowance` levels of the proper mesh in the first entries of `list`, of which so much is counted, the
@@ -40,30 +41,24 @@ pub fn undo_levels(
     }
     let vertices = counts.vertices;
     let triangles = counts.triangles;
-    let Taken::Reading {
-        role,
-        vertices: kept,
-        triangles: centres,
-    } = undo_least(
+    let mesh = Mesh {
         vertices,
         triangles,
-        &list[..3 * triangles],
-        other,
-        rows,
-        ring,
-        marks,
-        coarse,
-        numbers,
-        map,
-        faces,
-        table,
-    )
-    else {
+        list: &list[..3 * triangles],
+    };
+    let Some(reading) = undo_least(
+        mesh, other, rows, ring, marks, coarse, numbers, map, faces, table,
+    ) else {
         return stop(counts, list, out); // no role has a reading
     };
     let rest = undo_levels(
         allowance - 1,
-        coarse_counts(vertices, counts.boundary, kept, centres),
+        coarse_counts(
+            vertices,
+            counts.boundary,
+            reading.vertices,
+            reading.triangles,
+        ),
         coarse,
         out,
         other,
@@ -76,5 +71,5 @@ pub fn undo_levels(
         faces,
         table,
     );
-    one_more(role, rest)
+    one_more(reading.role, rest)
 }

@@ -1,5 +1,5 @@
 -- The input triangles that are claimed for the triangles of the splitting.
-use Rattle.std.specs.Prelude.{ℕ, suc, ◌+◌, ◌*◌, ◌/◌, ◌%◌, ◌≤◌, ◌<◌, ◌≡◌, ◌≢◌, List, [], ◌∷◌, T, length}
+use Rattle.std.specs.Prelude.{ℕ, suc, ◌+◌, ◌*◌, ◌/◌, ◌%◌, ◌≤◌, ◌<◌, ◌≡◌, List, [], ◌∷◌, T, length}
 use Rattle.theory.specs.Mesh.{at}
 use Rattle.theory.specs.Counting.{count}
 use Rattle.lists.specs.Marks.{marked}
@@ -19,16 +19,10 @@ pub record Claimed (F : ℕ) (marks other out : List ℕ) : Type 0 where
       → at out (4 * count (marked marks) k + suc i) ≡ at other (3 * k + (i + 2) % 3) / 3
 
 -- The four of triangle k.
-unfoldable pub claims_of : List ℕ → ℕ → List ℕ
+abbrev pub claims_of : List ℕ → ℕ → List ℕ
 claims_of other k = k ∷ at other (3 * k + 2) / 3 ∷ at other (3 * k) / 3 ∷ at other (3 * k + 1) / 3 ∷ []
 
--- What `claim_four` is lent: triangle k, the half-edges across its edges, and room after `total` others.
-pub record FourLent (k total : ℕ) (other out : List ℕ) : Type 0 where
+-- What is lent for the four of triangle k: the half-edges across its edges.
+pub record FourLent (k : ℕ) (other : List ℕ) : Type 0 where
   pub small : k < 65536
   pub other_room : 3 * k + 3 ≤ length other
-  pub out_room : 4 * total + 4 ≤ length out
-
--- What `claim` is lent: the mark of triangle k, and the same where it is marked.
-pub record ClaimLent (k total : ℕ) (marks other out : List ℕ) : Type 0 where
-  pub marks_room : k < length marks
-  pub four : at marks k ≢ 0 → FourLent k total other out

@@ -1,18 +1,21 @@
--- Runs of entries that are stored for marked triangles alone.
-use Rattle.std.specs.Prelude.{ℕ, ◌+◌, ◌*◌, ◌≡◌, ◌≢◌, List, [], ◌∷◌}
-use Rattle.std.proofs.lemmas.List.Edits.{sets}
-use Rattle.lists.specs.Marks.{bit_of}
+-- Runs of entries for the marked triangles alone, one run after the other.
+use Rattle.std.specs.Prelude.{ℕ, ◌+◌, ◌*◌, ◌≤◌, ◌<◌, ◌≡◌, List, [], ◌∷◌, T, length}
+use Rattle.theory.specs.Mesh.{at}
+use Rattle.theory.specs.Counting.{count}
+use Rattle.lists.specs.Marks.{marked}
 
 -- The values of a function at the three half-edges of triangle k.
-unfoldable pub three_of : (ℕ → ℕ) → ℕ → List ℕ
+abbrev pub three_of : (ℕ → ℕ) → ℕ → List ℕ
 three_of f k = f (3 * k) ∷ f (3 * k + 1) ∷ f (3 * k + 2) ∷ []
 
--- With a mark the run is stored from the place on; without one nothing is.
-pub data Stored (mark place : ℕ) (run out : List ℕ) : List ℕ → Type 0 where
-  stored : mark ≢ 0 → Stored mark place run out (sets out place run)
-  spared : mark ≡ 0 → Stored mark place run out out
+-- What `write_marked` is lent: the marks of F triangles, room for the runs of the marked ones, and what is lent for each.
+pub record RunsLent (width : ℕ) (lent : ℕ → Type 0) (F : ℕ) (marks out : List ℕ) : Type 0 where
+  pub marks_room : F ≤ length marks
+  pub out_room : width * count (marked marks) F ≤ length out
+  pub each : (k : ℕ) → k < F → lent k
 
--- It is stored after `total` runs of the same width, and counted.
-pub record Counted (mark width total : ℕ) (run out : List ℕ) (total' : ℕ) (out' : List ℕ) : Type 0 where
-  pub all : total' ≡ total + bit_of mark
-  pub stores : Stored mark (width * total) run out out'
+-- The run of each marked triangle stands at the place of its rank; `total` are marked.
+pub record RunsStored (width : ℕ) (run : ℕ → List ℕ) (F : ℕ) (marks : List ℕ) (total : ℕ) (out : List ℕ) : Type 0 where
+  pub all : total ≡ count (marked marks) F
+  pub entry : (k i : ℕ) → k < F → T (marked marks k) → i < width
+      → at out (width * count (marked marks) k + i) ≡ at (run k) i

@@ -16,11 +16,9 @@ pub record Selected (F : ℕ) (list marks : List ℕ) (total : ℕ) (out : List 
   pub entry : (k i : ℕ) → k < F → T (marked marks k) → i < 3
       → at out (3 * count (marked marks) k + i) ≡ at list (3 * k + i)
 
--- What `select_one` is lent: triangle k, its mark, and room after `total` others.
-pub record OneLent (k total : ℕ) (list marks out : List ℕ) : Type 0 where
+-- What is lent for the corners of triangle k: they stand in the list.
+pub record CornersLent (k : ℕ) (list : List ℕ) : Type 0 where
   pub list_room : 3 * k + 3 ≤ length list
-  pub marks_room : k < length marks
-  pub out_room : 3 * total + 3 ≤ length out
 
 -- The half-edge of the selected list that half-edge h becomes.
 abbrev pub selected_half : List ℕ → ℕ → ℕ
@@ -46,10 +44,7 @@ pub record RingSelected (F : ℕ) (ring marks rank out : List ℕ) : Type 0 wher
   pub entry : (k i : ℕ) → k < F → T (marked marks k) → i < 3
       → at out (3 * at rank k + i) ≡ selected_half rank (at ring (3 * k + i))
 
--- What `selected_links` is lent: triangle k, and room at its rank.
-pub record LinksLent (k : ℕ) (ring marks rank out : List ℕ) : Type 0 where
+-- What is lent for the links of triangle k, each with its half-edge of the selected list.
+pub record LinksLent (k : ℕ) (ring rank : List ℕ) : Type 0 where
   pub ring_room : 3 * k + 3 ≤ length ring
-  pub marks_room : k < length marks
-  pub rank_room : k < length rank
-  pub out_room : 3 * at rank k + 3 ≤ length out
   pub halves : (h : ℕ) → 3 * k ≤ h → h < 3 * k + 3 → HalfLent (at ring h) rank

@@ -1,10 +1,11 @@
 // The entries of the marked triangles of a list, one triangle after the other, and the same of a table of half-edges.
-ghost use Rattle.std.specs.Prelude.{◌≡◌, ◌*◌};
+ghost use Rattle.std.specs.Prelude.{◌≡◌, refl};
 ghost use Rattle.theory.specs.Mesh.{at};
-ghost use Rattle.undo_match.specs.Runs.{three_of, Stored, Counted};
-ghost use Rattle.undo_match.specs.Selected.{SelectLent, Selected, OneLent};
+ghost use Rattle.undo_match.specs.Runs.{three_of};
+ghost use Rattle.undo_match.specs.Selected.{SelectLent, Selected, CornersLent};
 ghost use Rattle.undo_match.specs.Selected.{RingLent, RingSelected, LinksLent, HalfLent, selected_half};
 
+use crate::marked::{Runs, write_marked};
 use lists::at;
 
 // Copies the corners of the marked triangles to the front of `out`, in order. Answers how many are marked.
@@ -12,28 +13,27 @@ pub fn select(triangles: usize, list: &[u16], marks: &[u16], out: &mut [u16]) ->
     requires { SelectLent triangles list.now marks.now out.old }
     ensures { Selected triangles list.now marks.now result out.new }
 {
-    let mut count = 0;
-    let mut k = 0;
-    while k < triangles {
-        count = select_one(k, count, list, marks, out);
-        k += 1;
-    }
-    count
+    write_marked(&Corners { list }, triangles, marks, out)
 }
 
-// Copies the corners of triangle k after those of `count` others, if it is marked.
-fn select_one(k: usize, count: usize, list: &[u16], marks: &[u16], out: &mut [u16]) -> usize
-    requires { OneLent k count list.now marks.now out.old }
-    ensures { Counted (at marks.now k) 3 count (three_of (at list.now) k)
-        out.old result out.new }
-{
-    if marks[k] == 0 {
-        return count;
+// The corners of a triangle.
+#[derive(Drop)]
+struct Corners<'a> {
+    list: &'a [u16],
+}
+
+impl Runs<3> for Corners<'_> {
+    ghost run = { λ corners k. three_of (at corners.list.now) k };
+
+    ghost lent = { λ corners k. CornersLent k corners.list.now };
+
+    fn write(&self, k: usize, place: usize, out: &mut [u16]) {
+        out[place] = self.list[3 * k];
+        out[place + 1] = self.list[3 * k + 1];
+        out[place + 2] = self.list[3 * k + 2];
     }
-    out[3 * count] = list[3 * k];
-    out[3 * count + 1] = list[3 * k + 1];
-    out[3 * count + 2] = list[3 * k + 2];
-    count + 1
+
+    ghost long = { λ corners k. refl };
 }
 
 // The rings of the marked triangles' edges, as half-edges of the selected list: `rank` has the rank of each marked
@@ -43,27 +43,28 @@ pub fn selected_ring(triangles: usize, ring: &[u16], marks: &[u16], rank: &[u16]
     ensures { RingSelected triangles ring.now marks.now rank.now
         out.new }
 {
-    let mut k = 0;
-    while k < triangles {
-        selected_links(k, ring, marks, rank, out);
-        k += 1;
-    }
+    write_marked(&Links { ring, rank }, triangles, marks, out);
 }
 
-// Those of triangle k, if it is marked.
-fn selected_links(k: usize, ring: &[u16], marks: &[u16], rank: &[u16], out: &mut [u16])
-    requires { LinksLent k ring.now marks.now rank.now out.old }
-    ensures { Stored (at marks.now k) (3 * at rank.now k)
-        (three_of (λ h. selected_half rank.now (at ring.now h)) k)
-        out.old out.new }
-{
-    if marks[k] == 0 {
-        return;
+// The links of a triangle's half-edges, as half-edges of the selected list.
+#[derive(Drop)]
+struct Links<'a> {
+    ring: &'a [u16],
+    rank: &'a [u16],
+}
+
+impl Runs<3> for Links<'_> {
+    ghost run = { λ links k. three_of (λ h. selected_half links.rank.now (at links.ring.now h)) k };
+
+    ghost lent = { λ links k. LinksLent k links.ring.now links.rank.now };
+
+    fn write(&self, k: usize, place: usize, out: &mut [u16]) {
+        out[place] = selected_half(at(self.ring, 3 * k), self.rank);
+        out[place + 1] = selected_half(at(self.ring, 3 * k + 1), self.rank);
+        out[place + 2] = selected_half(at(self.ring, 3 * k + 2), self.rank);
     }
-    let place = 3 * at(rank, k);
-    out[place] = selected_half(at(ring, 3 * k), rank);
-    out[place + 1] = selected_half(at(ring, 3 * k + 1), rank);
-    out[place + 2] = selected_half(at(ring, 3 * k + 2), rank);
+
+    ghost long = { λ links k. refl };
 }
 
 // The half-edge of the selected list that half-edge h becomes.

@@ -1,14 +1,14 @@
 -- The nine work buffers of an undo keep their lengths, and so their room.
 use Prim.Native.Nat.{ℕ, ◌+◌, ◌*◌, ◌≤◌}
 use native.Mathlib.Omega.{arith}
-use mathlib.Core.Path.{◌≡◌, ◌∙◌}
+use mathlib.Core.Path.{◌≡◌, refl, ◌∙◌}
 use mathlib.Core.List.{List}
 use lib.ListN.{length}
 use Rattle.theory.specs.Splitting.{first_on}
 use Rattle.mesh_rings.specs.Ring.{RingBy}
 use Rattle.mesh_rings.proofs.Tables.{work-kept}
 use Rattle.undo_cover.specs.Cover.{CoverLent}
-use Rattle.undo_role.specs.Buffers.{Buffers, Rooms}
+use Rattle.undo_role.specs.Buffers.{Buffers, buffers, Rooms}
 use Rattle.undo_role.specs.Tried.{Undoable}
 
 -- They are as long as they were.
@@ -36,6 +36,38 @@ kept_on K K' = record {
   faces = K'.faces ∙ K.faces;
   table = K'.table ∙ K.table;
 }
+
+module _ {b : Buffers} {marks coarse numbers map : List ℕ} (m : length marks ≡ length b.marks)
+    (c : length coarse ≡ length b.coarse) (n : length numbers ≡ length b.numbers) (v : length map ≡ length b.map) where
+  -- so they are where a mesh is judged, which writes five of them
+  pub judged-kept : {ring : List ℕ} → length ring ≡ length b.ring
+      → SameLengths b (buffers b.other b.rows ring marks coarse numbers map b.faces b.table)
+  judged-kept r = record {
+    other = refl;
+    rows = refl;
+    ring = r;
+    marks = m;
+    coarse = c;
+    numbers = n;
+    map = v;
+    faces = refl;
+    table = refl;
+  }
+
+  -- and where a role is tried, which leaves the covering mesh as it is
+  pub tried-kept : {faces table : List ℕ} → length faces ≡ length b.faces → length table ≡ length b.table
+      → SameLengths b (buffers b.other b.rows b.ring marks coarse numbers map faces table)
+  tried-kept f t = record {
+    other = refl;
+    rows = refl;
+    ring = refl;
+    marks = m;
+    coarse = c;
+    numbers = n;
+    map = v;
+    faces = f;
+    table = t;
+  }
 
 -- buffers that keep their lengths have room for a mesh that is not larger
 pub rooms-kept : {N F M n : ℕ} {b₀ b : Buffers} → M + 3 * n ≤ N + 3 * F → Rooms N F b₀ → SameLengths b₀ b → Rooms M n b

@@ -2,6 +2,7 @@
 -- If the tests pass, the maps are those of the returned reading; and if there is a reading in the role, the returned
 -- one passes every test.
 use Prim.Native.Nat.{ℕ, ◌+◌, ◌*◌, ◌≤◌, ◌<◌}
+use Rattle.std.specs.Prelude.{Option, Some, None, Result, Ok, Err}
 use native.Mathlib.Omega.{arith}
 use mathlib.Core.Path.{◌≡◌, refl, sym, ◌∙◌, subst}
 use mathlib.Core.Logic.{◌≢◌}
@@ -33,15 +34,14 @@ use Rattle.undo_cover.specs.Cover.{CoverMade}
 use Rattle.undo_cover.specs.Starts.{start_of}
 use Rattle.undo_match.specs.Selected.{Selected}
 use Rattle.undo_compare.specs.Compared.{AllAgree, Compared, agree as agreed, inside_out, differ}
-use Rattle.undo_compare.specs.declared.Comparison.{Comparison}
-use Rattle.undo_compare.specs.declared.Comparison.TheVariants as comparison
+use Rattle.undo_compare.specs.declared.Mismatch.{Mismatch}
+use Rattle.undo_compare.specs.declared.Mismatch.TheVariants as mismatch
 use Rattle.undo_stages.specs.Role.{FindLent, Gathered, TilesFound, nowhere, uneven, quarter}
 use Rattle.undo_stages.specs.Role.{NumberTilesLent, AddedUp, even, odd, CoarseNumbered}
 use Rattle.undo_stages.specs.Maps.{VerticesLent, VerticesMapped, TrianglesLent, TrianglesMapped, AllLent, AllCompared}
-use Rattle.undo_stages.specs.declared.Counted.{Counted}
-use Rattle.undo_stages.specs.declared.Counted.TheVariants as counted
 use Rattle.undo_role.specs.Buffers.{buffers, Rooms}
-use Rattle.undo_role.specs.Tried.{Undoable, RoleLent, OldOnly}
+use Rattle.undo_role.specs.Tried.{Undoable, RoleLent, OldOnly, TriedRole, no_reading_of}
+use Rattle.undo_role.specs.Tried.{inside_out as tried_inside_out, none as tried_none}
 use Rattle.undo_role.proofs.Begins.{Begun, starts, nowhere as begun_nowhere, start-begun}
 use Rattle.undo_role.proofs.Coarse.{Searched, Tables, AcrossOnly, Sources, Tested}
 use Rattle.undo_role.proofs.Coarse.{marked-reach, tables-built}
@@ -76,11 +76,11 @@ selected-front {F} {rows = rows} S = record {
 }
 
 -- where nothing is counted, vertices and edges do not add up to N
-added_none : {N M E : ℕ} → AddedUp N M E counted.Nothing → M + E ≢ N
+added_none : {N M E : ℕ} → AddedUp N M E None → M + E ≢ N
 added_none (odd n) = n
 
 -- and else they do, and what is counted is the vertices
-added-held : {N M E held : ℕ} → AddedUp N M E (counted.Holds held) → (held ≡ M) × (M + E ≡ N)
+added-held : {N M E held : ℕ} → AddedUp N M E (Some held) → (held ≡ M) × (M + E ≡ N)
 added-held (even e) = (refl, e)
 
 module _ {role N F : ℕ} {T other rows ring marks₀ coarse₀ numbers₀ map₀ faces₀ table₀ : List ℕ}
@@ -162,7 +162,7 @@ module _ {role N F : ℕ} {T other rows ring marks₀ coarse₀ numbers₀ map�
   }
 
   -- What `find_tiles` finds.
-  abbrev Found : (marks kept : List ℕ) → Counted → Type 0
+  abbrev Found : (marks kept : List ℕ) → Option ℕ → Type 0
   Found = TilesFound (start_of 0 role F other rows) F rows ring
 
   module _ {marks kept : List ℕ} where
@@ -193,19 +193,19 @@ module _ {role N F : ℕ} {T other rows ring marks₀ coarse₀ numbers₀ map�
         go (S, q) = omega (arith, n, G.selected.all, returned-quarter S R q)
 
     -- so where `find_tiles` finds nothing, there is no reading
-    pub unfound : {answer : Counted} → Found marks kept answer → answer ≡ counted.Nothing → ReadingIn Same N T role → ⊥
+    pub unfound : {answer : Option ℕ} → Found marks kept answer → answer ≡ None → ReadingIn Same N T role → ⊥
     unfound found nothing R = go (subst (Found marks kept) nothing found)
       where
-        go : Found marks kept counted.Nothing → ⊥
+        go : Found marks kept None → ⊥
         go (nowhere e) = unbegun begun e (returned R)
         go (uneven G n) = unquartered begun G n (returned R)
 
     -- and else the tiles are found
-    pub picked : {answer : Counted} {n : ℕ} → Found marks kept answer → answer ≡ counted.Holds n
+    pub picked : {answer : Option ℕ} {n : ℕ} → Found marks kept answer → answer ≡ Some n
         → Picked role N F n T rows marks kept
     picked found holds = go (subst (Found marks kept) holds found)
       where
-        go : {n : ℕ} → Found marks kept (counted.Holds n) → Picked role N F n T rows marks kept
+        go : {n : ℕ} → Found marks kept (Some n) → Picked role N F n T rows marks kept
         go (quarter G q _) = record {
           start = _;
           searched = (gathered-searched begun G).0;
@@ -279,7 +279,7 @@ module _ {role N F : ℕ} {T other rows ring marks₀ coarse₀ numbers₀ map�
         map_room = omega (arith, room.faces.room);
       }
 
-    module _ {coarse numbers : List ℕ} {answer : Counted}
+    module _ {coarse numbers : List ℕ} {answer : Option ℕ}
         (Z : CoarseNumbered N F n ring marks kept coarse numbers answer) where
       -- the tables of the coarse mesh
       coarsened : Tables N F (take (3 * F) rows) marks Z.vertices n kept Z.tables.vertex_rank Z.tables.rank
@@ -299,7 +299,7 @@ module _ {role N F : ℕ} {T other rows ring marks₀ coarse₀ numbers₀ map�
       edges-counted = Z.numbered.total (take (3 * n) coarse) coarsened.whole coarse-rings
 
       -- where vertices and edges do not add up, there is no reading
-      pub uncounted : answer ≡ counted.Nothing → ReadingIn Same N T role → ⊥
+      pub uncounted : answer ≡ None → ReadingIn Same N T role → ⊥
       uncounted e R = go (returned R)
         where
           go : (r : Reading) × Returned Same N T role r → ⊥
@@ -311,7 +311,7 @@ module _ {role N F : ℕ} {T other rows ring marks₀ coarse₀ numbers₀ map�
           )
 
       -- and else they add up, and what is counted is the vertices
-      all-counted : {M : ℕ} → answer ≡ counted.Holds M → (M ≡ Z.vertices) × (Z.vertices + Z.edges ≡ N)
+      all-counted : {M : ℕ} → answer ≡ Some M → (M ≡ Z.vertices) × (Z.vertices + Z.edges ≡ N)
       all-counted e = added-held (subst (AddedUp N Z.vertices Z.edges) e Z.answers)
 
       -- ---- the maps
@@ -387,29 +387,29 @@ module _ {role N F : ℕ} {T other rows ring marks₀ coarse₀ numbers₀ map�
             different = splitting-different P.searched coarsened;
           }
 
-          module _ {answer_c : Comparison} (A : AllCompared F n T coarse numbers map faces answer_c) where
+          module _ {answer_c : Result Unit Mismatch} (A : AllCompared F n T coarse numbers map faces answer_c) where
             -- The triangles agree, as they stand in the buffers.
             abbrev Agree : Agreement → ℕ → Type 0
             Agree agree G = AllAgree agree G T map faces (split Z.vertices (take (3 * n) coarse))
 
             -- what the comparison came to
-            compared : {seen : Comparison} → answer_c ≡ seen
+            compared : {seen : Result Unit Mismatch} → answer_c ≡ seen
                 → Compared F T map faces (split Z.vertices (take (3 * n) coarse)) seen
             compared e = subst (Compared F T map faces (split Z.vertices (take (3 * n) coarse))) e
                 (A.compared Z.vertices numbered)
 
             -- where the triangles differ, there is no reading by the old rule
-            pub unlike : answer_c ≡ comparison.Differ → ReadingIn Same N T role → ⊥
+            pub unlike : answer_c ≡ Err mismatch.Differ → ReadingIn Same N T role → ⊥
             unlike e R = go (compared e) (returned R)
               where
-                go : Compared F T map faces (split Z.vertices (take (3 * n) coarse)) comparison.Differ
+                go : Compared F T map faces (split Z.vertices (take (3 * n) coarse)) (Err mismatch.Differ)
                     → (r : Reading) × Returned Same N T role r → ⊥
                 go (differ not) (r, R) =
                     not (returned-tested P.searched R P.begins coarsened sources map faces
                     (λ p l. map-coarse R p l ∙ sym (at_take (3 * n) coarse p l)) (map-numbers R) (faces-once R)
                     ).agreed
 
-            module _ {M : ℕ} (m : answer ≡ counted.Holds M) (v : answer_v ≡ true) (t : answer_t ≡ true) where
+            module _ {M : ℕ} (m : answer ≡ Some M) (v : answer_v ≡ true) (t : answer_t ≡ true) where
               -- and where they have the same vertices, all is as tested
               tested : Agree Same F
                   → Tested N F Z.vertices n T kept (take (3 * n) coarse) corners numbers claimed map faces
@@ -456,10 +456,10 @@ module _ {role N F : ℕ} {T other rows ring marks₀ coarse₀ numbers₀ map�
                 ) at a
 
                 -- where all agree, it is the returned one
-                pub read : answer_c ≡ comparison.Agree → Returned Rotated N T role made-reading
+                pub read : answer_c ≡ Ok tt → Returned Rotated N T role made-reading
                 read e = go (compared e)
                   where
-                    go : Compared F T map faces (split Z.vertices (take (3 * n) coarse)) comparison.Agree
+                    go : Compared F T map faces (split Z.vertices (take (3 * n) coarse)) (Ok tt)
                         → Returned Rotated N T role made-reading
                     go (agreed all) = agrees-returned
                         (read-old (λ k l. rotated-implies.same (all k l)))
@@ -469,11 +469,11 @@ module _ {role N F : ℕ} {T other rows ring marks₀ coarse₀ numbers₀ map�
                         inside d = omega (arith, mesh.whole, d.inside)
 
                 -- and else the least that does not is known
-                pub read-inside-out : {k : ℕ} → answer_c ≡ comparison.InsideOut k → OldOnly N T role k
+                pub read-inside-out : {k : ℕ} → answer_c ≡ Err (mismatch.InsideOut k) → OldOnly N T role k
                 read-inside-out e = go (compared e)
                   where
                     go : {k : ℕ}
-                        → Compared F T map faces (split Z.vertices (take (3 * n) coarse)) (comparison.InsideOut k)
+                        → Compared F T map faces (split Z.vertices (take (3 * n) coarse)) (Err (mismatch.InsideOut k))
                         → OldOnly N T role k
                     go (inside_out same l not before) = record {
                       reading = made-reading;
@@ -486,3 +486,9 @@ module _ {role N F : ℕ} {T other rows ring marks₀ coarse₀ numbers₀ map�
                         before = λ j b d. d.differs (agrees-there (omega arith) (before j b));
                       };
                     }
+
+                -- so where they do not all agree, it is known why there is no reading
+                pub refused : (why : Mismatch) → answer_c ≡ Err why
+                    → TriedRole role N F T coarse map faces (Err (no_reading_of why))
+                refused (mismatch.InsideOut k) e = tried_inside_out (read-inside-out e)
+                refused mismatch.Differ e = tried_none (unlike e)

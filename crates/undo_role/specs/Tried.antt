@@ -3,9 +3,11 @@ use Rattle.std.specs.Prelude.{ℕ, ◌+◌, ◌*◌, ◌≤◌, ◌<◌, ◌≡�
 use Rattle.theory.specs.Mesh.{Same, Rotated, Proper}
 use Rattle.theory.specs.Reading.{Reading, ReadingIn, Disagrees, Returned}
 use Rattle.theory.specs.Refusals.{LeastPlace}
-use Rattle.answers.specs.declared.taken.Taken.{Taken}
-use Rattle.answers.specs.declared.taken.Taken.TheVariants as taken
-use Rattle.answers.specs.Taken.{reading_in}
+use Rattle.answers.specs.Taken.{Taken, reads, stopped_at, nothing, reading_in}
+use Rattle.answers.specs.declared.taken.NoReading.{NoReading}
+use Rattle.answers.specs.declared.taken.NoReading.TheVariants.{InsideOut, Nothing}
+use Rattle.undo_compare.specs.declared.Mismatch.{Mismatch}
+use Rattle.undo_compare.specs.declared.Mismatch.TheVariants as mismatch
 use Rattle.undo_cover.specs.Cover.{CoverMade}
 use Rattle.undo_role.specs.Buffers.{Buffers, Rooms}
 
@@ -39,6 +41,11 @@ pub record OldOnly (N : ℕ) (T : List ℕ) (role k : ℕ) : Type 0 where
 -- it has one by the old rule alone; or none by either.
 pub data TriedRole (role N F : ℕ) (T coarse map faces : List ℕ) : Taken → Type 0 where
   found : {M n : ℕ} → Returned Rotated N T role (reading_in N F M n coarse map faces)
-      → TriedRole role N F T coarse map faces (taken.Reading role M n)
-  inside_out : {k : ℕ} → OldOnly N T role k → TriedRole role N F T coarse map faces (taken.InsideOut k)
-  none : (ReadingIn Same N T role → ⊥) → TriedRole role N F T coarse map faces taken.Nothing
+      → TriedRole role N F T coarse map faces (reads role M n)
+  inside_out : {k : ℕ} → OldOnly N T role k → TriedRole role N F T coarse map faces (stopped_at k)
+  none : (ReadingIn Same N T role → ⊥) → TriedRole role N F T coarse map faces nothing
+
+-- Why there is none, where the triangles do not all agree.
+abbrev pub no_reading_of : Mismatch → NoReading
+no_reading_of (mismatch.InsideOut triangle) = InsideOut triangle
+no_reading_of mismatch.Differ = Nothing

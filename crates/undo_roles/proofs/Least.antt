@@ -1,5 +1,6 @@
 -- The roles that are tried one after the other: what a turn of the loop of `least_role` keeps, and what the roles come
 -- to; then the role that is asked for.
+use Rattle.std.specs.Prelude.{Ok, Err}
 use Prim.Native.Nat.{ℕ, ◌+◌, ◌≤◌, ◌<◌}
 use native.Mathlib.Omega.{arith}
 use mathlib.Core.Path.{◌≡◌, refl, sym, subst}
@@ -14,14 +15,13 @@ use Rattle.theory.proofs.Rotation.{rotated-implies}
 use Rattle.theory.proofs.Determined.{role-within, returned-in}
 use Rattle.theory.proofs.OldRule.{old-returned, inside-out-at}
 use Rattle.lists.proofs.Lists.{by-lt}
-use Rattle.answers.specs.declared.taken.Taken.{Taken}
-use Rattle.answers.specs.declared.taken.Taken.TheVariants as taken
-use Rattle.answers.specs.Taken.{earlier_of}
-use Rattle.answers.proofs.Arms.{OtherArm, not-reading}
+use Rattle.answers.specs.declared.taken.RoleRead.{RoleRead}
+use Rattle.answers.specs.declared.taken.NoReading.{NoReading}
+use Rattle.answers.specs.Taken.{Taken, stopped_at, nothing, earlier_of}
 use Rattle.undo_role.specs.Buffers.{Buffers, buffers}
 use Rattle.undo_role.specs.Tried.{RolesLent, RoleLent, OldOnly, TriedRole}
 use Rattle.undo_role.specs.Tried.{found as role_found, inside_out as role_inside_out, none as role_none}
-use Rattle.undo_role.proofs.Rooms.{SameLengths, kept_on, rooms-kept}
+use Rattle.undo_role.proofs.Rooms.{SameLengths, kept_on, rooms-kept, tried-kept}
 use Rattle.undo_roles.specs.Least.{LeastTried, found, inside_out, none}
 use Rattle.undo_roles.specs.Choices.{ChoiceLent, ChosenTried}
 use Rattle.undo_roles.specs.Choices.{found as chosen_found, inside_out as chosen_inside_out, none as chosen_none}
@@ -36,8 +36,8 @@ old-only-none P O R =
 -- What is remembered of the roles below this one: nothing, as none has a reading by the old rule; or the triangle that
 -- stands in the way in the least that has.
 pub data Remembered (N : ℕ) (T : List ℕ) (role : ℕ) : Taken → Type 0 where
-  nothing : ((earlier : ℕ) → earlier < role → ReadingIn Same N T earlier → ⊥) → Remembered N T role taken.Nothing
-  old : {first k : ℕ} → LeastRole Same N T first → OldOnly N T first k → Remembered N T role (taken.InsideOut k)
+  no_old : ((earlier : ℕ) → earlier < role → ReadingIn Same N T earlier → ⊥) → Remembered N T role nothing
+  old : {first k : ℕ} → LeastRole Same N T first → OldOnly N T first k → Remembered N T role (stopped_at k)
 
 -- ---- the loop
 
@@ -50,21 +50,19 @@ before-next {role = role} before refuted earlier l R =
     (λ b. let e : earlier ≡ role = omega arith in refuted (rw (← e) R))
 
 -- a role in which no reading is taken has none
-tried-none : {role N F : ℕ} {T coarse map faces : List ℕ} {answer : Taken} → Proper N T
-    → TriedRole role N F T coarse map faces answer → OtherArm answer → ReadingIn Rotated N T role → ⊥
-tried-none P (role_found _) o = not-reading o
-tried-none P (role_inside_out O) _ = old-only-none P O
-tried-none P (role_none refuted) _ = λ R. refuted (reading_in-same rotated-implies R)
+tried-none : {role N F : ℕ} {T coarse map faces : List ℕ} {why : NoReading} → Proper N T
+    → TriedRole role N F T coarse map faces (Err why) → ReadingIn Rotated N T role → ⊥
+tried-none P (role_inside_out O) = old-only-none P O
+tried-none P (role_none refuted) = λ R. refuted (reading_in-same rotated-implies R)
 
 -- and what is remembered with it is what is remembered of the roles below the next
-remembered-next : {role N F : ℕ} {T coarse map faces : List ℕ} {remembered answer : Taken}
-    → Remembered N T role remembered → TriedRole role N F T coarse map faces answer → OtherArm answer
-    → Remembered N T (role + 1) (earlier_of remembered answer)
-remembered-next (old L O) _ _ = old L O
-remembered-next (nothing before) (role_found _) o = not-reading o
-remembered-next (nothing before) (role_inside_out O) _ =
+remembered-next : {role N F : ℕ} {T coarse map faces : List ℕ} {remembered : Taken} {why : NoReading}
+    → Remembered N T role remembered → TriedRole role N F T coarse map faces (Err why)
+    → Remembered N T (role + 1) (earlier_of remembered (Err why))
+remembered-next (old L O) _ = old L O
+remembered-next (no_old before) (role_inside_out O) =
     old (record { has = returned-in O.returned; before = before }) O
-remembered-next (nothing before) (role_none refuted) _ = nothing (before-next before refuted)
+remembered-next (no_old before) (role_none refuted) = no_old (before-next before refuted)
 
 -- Before a turn: the next role is at most 4, no role below it has a reading, those that have one by the old rule are
 -- remembered, the roles are lent what they need, and the buffers have kept their lengths.
@@ -76,23 +74,13 @@ pub record Turn (N F : ℕ) (T : List ℕ) (b₀ b : Buffers) (remembered : Take
   pub lengths : SameLengths b₀ b
 
 -- the first turn
-pub begun : {N F : ℕ} {T : List ℕ} {b : Buffers} → RolesLent N F T b → Turn N F T b b taken.Nothing 0
+pub begun : {N F : ℕ} {T : List ℕ} {b : Buffers} → RolesLent N F T b → Turn N F T b b nothing 0
 begun L = record {
   is_next = omega arith;
   before = λ _ l. absurd (omega arith);
-  memory = nothing (λ _ l. absurd (omega arith));
+  memory = no_old (λ _ l. absurd (omega arith));
   lent = L;
-  lengths = record {
-    other = refl;
-    rows = refl;
-    ring = refl;
-    marks = refl;
-    coarse = refl;
-    numbers = refl;
-    map = refl;
-    faces = refl;
-    table = refl;
-  };
+  lengths = tried-kept refl refl refl refl refl refl;
 }
 
 module _ {N F : ℕ} {T : List ℕ} {b₀ b : Buffers} {remembered : Taken} {role : ℕ}
@@ -102,28 +90,22 @@ module _ {N F : ℕ} {T : List ℕ} {b₀ b : Buffers} {remembered : Taken} {rol
   triable l = record { is_role = omega arith; lent = I.lent }
 
   -- one turn, in a role that has no reading
-  pub turned : {marks coarse numbers map faces table : List ℕ} {answer with_it : Taken} → role < 4
+  pub turned : {marks coarse numbers map faces table : List ℕ} {with_it : Taken} {why : NoReading} → role < 4
       → SameLengths b (buffers b.other b.rows b.ring marks coarse numbers map faces table)
-      → TriedRole role N F T coarse map faces answer → OtherArm answer → with_it ≡ earlier_of remembered answer
+      → TriedRole role N F T coarse map faces (Err why) → with_it ≡ earlier_of remembered (Err why)
       → Turn N F T b₀ (buffers b.other b.rows b.ring marks coarse numbers map faces table) with_it (role + 1)
-  turned l K t n e = record {
+  turned l K t e = record {
     is_next = omega arith;
-    before = before-next I.before (tried-none I.lent.mesh.proper t n);
-    memory = subst (Remembered N T (role + 1)) (sym e) (remembered-next I.memory t n);
+    before = before-next I.before (tried-none I.lent.mesh.proper t);
+    memory = subst (Remembered N T (role + 1)) (sym e) (remembered-next I.memory t);
     lent = record { mesh = I.lent.mesh; made = I.lent.made; rooms = rooms-kept (omega arith) I.lent.rooms K };
     lengths = kept_on I.lengths K;
   }
 
   -- the first role that has a reading is the least
-  found-least : {coarse map faces : List ℕ} {first M n : ℕ}
-      → TriedRole role N F T coarse map faces (taken.Reading first M n)
-      → LeastTried N F T coarse map faces (taken.Reading first M n)
-  found-least (role_found R) = found (record { has = returned-in R; before = I.before }) R
-
-  -- so what is taken there is taken
-  pub first-least : {coarse map faces : List ℕ} {answer : Taken} {first M n : ℕ} → answer ≡ taken.Reading first M n
-      → TriedRole role N F T coarse map faces answer → LeastTried N F T coarse map faces answer
-  first-least e t = subst (LeastTried N F T _ _ _) (sym e) (found-least (subst (TriedRole role N F T _ _ _) e t))
+  pub first-least : {coarse map faces : List ℕ} {r : RoleRead} → TriedRole role N F T coarse map faces (Ok r)
+      → LeastTried N F T coarse map faces (Ok r)
+  first-least (role_found R) = found (record { has = returned-in R; before = I.before }) R
 
   -- no role has a reading that none below 4 has
   all-tried : {agree : Agreement} → 4 ≤ role → ((earlier : ℕ) → earlier < role → ReadingIn agree N T earlier → ⊥)
@@ -136,7 +118,7 @@ module _ {N F : ℕ} {T : List ℕ} {b₀ b : Buffers} {remembered : Taken} {rol
     where
       go : {answer : Taken} {coarse map faces : List ℕ} → Remembered N T role answer
           → LeastTried N F T coarse map faces answer
-      go (nothing before) = none (all-tried l before)
+      go (no_old before) = none (all-tried l before)
       go (old L O) = inside_out (all-tried l I.before) L O
 
 -- ---- the role that is asked for

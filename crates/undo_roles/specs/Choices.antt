@@ -5,9 +5,7 @@ use Rattle.theory.specs.Mesh.{Same, Rotated}
 use Rattle.theory.specs.Reading.{Returned}
 use Rattle.theory.specs.Choice.{Chosen, NoneChosen}
 use Rattle.theory.specs.Refusals.{InsideOut, LeastPlace}
-use Rattle.answers.specs.declared.taken.Taken.{Taken}
-use Rattle.answers.specs.declared.taken.Taken.TheVariants as taken
-use Rattle.answers.specs.Taken.{reading_in}
+use Rattle.answers.specs.Taken.{Taken, reads, stopped_at, nothing, reading_in}
 use Rattle.undo_role.specs.Buffers.{Buffers}
 use Rattle.undo_role.specs.Tried.{RolesLent}
 
@@ -21,7 +19,7 @@ pub record ChoiceLent (asked N F : ℕ) (T : List ℕ) (b : Buffers) : Type 0 wh
 pub data ChosenTried (asked N F : ℕ) (T coarse map faces : List ℕ) : Taken → Type 0 where
   found : {role M n : ℕ} → Chosen Rotated N T asked role
       → Returned Rotated N T role (reading_in N F M n coarse map faces)
-      → ChosenTried asked N F T coarse map faces (taken.Reading role M n)
+      → ChosenTried asked N F T coarse map faces (reads role M n)
   inside_out : {k : ℕ} → LeastPlace (InsideOut N T asked) k
-      → ChosenTried asked N F T coarse map faces (taken.InsideOut k)
-  none : NoneChosen Same N T asked → ChosenTried asked N F T coarse map faces taken.Nothing
+      → ChosenTried asked N F T coarse map faces (stopped_at k)
+  none : NoneChosen Same N T asked → ChosenTried asked N F T coarse map faces nothing

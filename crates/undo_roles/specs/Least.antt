@@ -3,9 +3,7 @@ use Rattle.std.specs.Prelude.{ℕ, List}
 use Rattle.theory.specs.Mesh.{Same, Rotated}
 use Rattle.theory.specs.Reading.{Returned}
 use Rattle.theory.specs.Choice.{LeastRole, NoRole}
-use Rattle.answers.specs.declared.taken.Taken.{Taken}
-use Rattle.answers.specs.declared.taken.Taken.TheVariants as taken
-use Rattle.answers.specs.Taken.{reading_in}
+use Rattle.answers.specs.Taken.{Taken, reads, stopped_at, nothing, reading_in}
 use Rattle.undo_role.specs.Tried.{OldOnly}
 
 -- The role is the least that has a reading, and the returned one, with M vertices and n triangles, stands in the
@@ -13,7 +11,7 @@ use Rattle.undo_role.specs.Tried.{OldOnly}
 -- these; or no role has a reading by either.
 pub data LeastTried (N F : ℕ) (T coarse map faces : List ℕ) : Taken → Type 0 where
   found : {role M n : ℕ} → LeastRole Rotated N T role → Returned Rotated N T role (reading_in N F M n coarse map faces)
-      → LeastTried N F T coarse map faces (taken.Reading role M n)
+      → LeastTried N F T coarse map faces (reads role M n)
   inside_out : {role k : ℕ} → NoRole Rotated N T → LeastRole Same N T role → OldOnly N T role k
-      → LeastTried N F T coarse map faces (taken.InsideOut k)
-  none : NoRole Same N T → LeastTried N F T coarse map faces taken.Nothing
+      → LeastTried N F T coarse map faces (stopped_at k)
+  none : NoRole Same N T → LeastTried N F T coarse map faces nothing

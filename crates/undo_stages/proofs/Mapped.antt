@@ -20,7 +20,8 @@ use Rattle.split.specs.Fours.{FoursLent}
 use Rattle.undo_match.specs.Selected.{Selected}
 use Rattle.undo_match.specs.Claims.{Claimed}
 use Rattle.undo_compare.specs.Compared.{CompareLent, Compared}
-use Rattle.undo_compare.specs.declared.Comparison.{Comparison}
+use Rattle.std.specs.Prelude.{Result}
+use Rattle.undo_compare.specs.declared.Mismatch.{Mismatch}
 use Rattle.lists.proofs.Decides.{false-true}
 use Rattle.undo_stages.specs.Maps.{VerticesLent, VerticesMapped, TrianglesLent, AllLent, AllCompared}
 
@@ -112,7 +113,7 @@ module _ {F : ℕ} {other marks map claimed claimed' : List ℕ} (L : TrianglesL
   claimed-lent long same = record {
     keyed = omega (arith, L.claims.out_room);
     inside = λ t l. omega (arith, L.map_room, claimed-inside t l);
-    small = omega (arith, L.claims.small);
+    valued = omega (arith, L.claims.small);
   }
 
 -- ---- the comparison
@@ -159,7 +160,7 @@ module _ {F n : ℕ} {list coarse numbers vertex_map triangle_map splitting : Li
         })
 
     -- which says whether they agree
-    pub all-compared : {answer : Comparison} → Compared F list vertex_map triangle_map (take (12 * n) splitting') answer
+    pub all-compared : {answer : Result Unit Mismatch} → Compared F list vertex_map triangle_map (take (12 * n) splitting') answer
         → AllCompared F n list coarse numbers vertex_map triangle_map answer
     all-compared {answer} C = record {
       compared = λ M numbered. subst (λ (S : List ℕ). Compared F list vertex_map triangle_map S answer)

@@ -1,5 +1,5 @@
 -- The maps of a role, as tables: what the calls that make them and compare by them are lent and do.
-use Rattle.std.specs.Prelude.{ℕ, ◌+◌, ◌*◌, ◌/◌, ◌≤◌, ◌<◌, ◌≡◌, Bool, true, List, T, length, take}
+use Rattle.std.specs.Prelude.{ℕ, ◌+◌, ◌*◌, ◌/◌, ◌≤◌, ◌<◌, ◌≡◌, Bool, true, List, T, length, take, Result}
 use Rattle.theory.specs.Mesh.{at}
 use Rattle.theory.specs.Counting.{count}
 use Rattle.theory.specs.Splitting.{edge_no, split}
@@ -10,7 +10,7 @@ use Rattle.mesh_mates.specs.Others.{HasMate}
 use Rattle.undo_match.specs.Selected.{SelectLent, Selected}
 use Rattle.undo_match.specs.Claims.{ClaimsLent, Claimed}
 use Rattle.undo_compare.specs.Compared.{Compared}
-use Rattle.undo_compare.specs.declared.Comparison.{Comparison}
+use Rattle.undo_compare.specs.declared.Mismatch.{Mismatch}
 
 -- ---- vertices
 
@@ -74,7 +74,7 @@ pub record AllLent (F n : ℕ) (list coarse numbers vertex_map triangle_map spli
       → at (split coarse_vertices (take (3 * n) coarse)) c ≡ at (split coarse_vertices (take (3 * n) coarse)) d → c ≡ d
 
 -- Where the numbers are those from M up, the triangles are compared with those of the coarse list's splitting.
-pub record AllCompared (F n : ℕ) (list coarse numbers vertex_map triangle_map : List ℕ) (answer : Comparison)
+pub record AllCompared (F n : ℕ) (list coarse numbers vertex_map triangle_map : List ℕ) (answer : Result Unit Mismatch)
     : Type 0 where
   pub compared : (M : ℕ) → Tabulated (edge_no M (take (3 * n) coarse)) (3 * n) numbers
       → Compared F list vertex_map triangle_map (split M (take (3 * n) coarse)) answer

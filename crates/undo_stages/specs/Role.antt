@@ -1,5 +1,5 @@
 -- One role, by the tables: the tiles that are reached from its start, and the coarse mesh that their rows make.
-use Rattle.std.specs.Prelude.{ℕ, ◌+◌, ◌*◌, ◌≤◌, ◌<◌, ◌≡◌, ◌≢◌, List, length, take}
+use Rattle.std.specs.Prelude.{ℕ, ◌+◌, ◌*◌, ◌≤◌, ◌<◌, ◌≡◌, ◌≢◌, List, length, take, Option, None, Some}
 use Rattle.theory.specs.Mesh.{at}
 use Rattle.theory.specs.Counting.{count}
 use Rattle.theory.specs.Splitting.{first_on}
@@ -10,8 +10,6 @@ use Rattle.mesh_reach.specs.Reached.{Reached}
 use Rattle.mesh_rings.specs.Ring.{RingBy}
 use Rattle.split.specs.Numbers.{Numbered}
 use Rattle.undo_match.specs.Selected.{Selected, RingSelected}
-use Rattle.undo_stages.specs.declared.Counted.{Counted}
-use Rattle.undo_stages.specs.declared.Counted.TheVariants as counted
 
 -- ---- the tiles
 
@@ -38,12 +36,12 @@ pub record Gathered (s F : ℕ) (rows ring marks kept : List ℕ) (n : ℕ) : Ty
 
 -- The number of tiles that are reached from s, where they are a quarter of the F triangles; else nothing, as where s is
 -- F, for no start.
-pub data TilesFound (s F : ℕ) (rows ring marks kept : List ℕ) : Counted → Type 0 where
-  nowhere : s ≡ F → TilesFound s F rows ring marks kept counted.Nothing
+pub data TilesFound (s F : ℕ) (rows ring marks kept : List ℕ) : Option ℕ → Type 0 where
+  nowhere : s ≡ F → TilesFound s F rows ring marks kept None
   uneven : {n : ℕ} → Gathered s F rows ring marks kept n → 4 * n ≢ F
-      → TilesFound s F rows ring marks kept counted.Nothing
+      → TilesFound s F rows ring marks kept None
   quarter : {n : ℕ} → Gathered s F rows ring marks kept n → 4 * n ≡ F → 0 < n
-      → TilesFound s F rows ring marks kept (counted.Holds n)
+      → TilesFound s F rows ring marks kept (Some n)
 
 -- ---- the coarse mesh
 
@@ -81,12 +79,12 @@ pub record NumberTilesLent (N F n : ℕ) (ring marks kept coarse numbers rank ta
       → RingBy (3 * n) (first_on (take (3 * n) out)) ring_c
 
 -- The number of vertices M, if they and the E edges add up to N; else nothing.
-pub data AddedUp (N M E : ℕ) : Counted → Type 0 where
-  even : M + E ≡ N → AddedUp N M E (counted.Holds M)
-  odd : M + E ≢ N → AddedUp N M E counted.Nothing
+pub data AddedUp (N M E : ℕ) : Option ℕ → Type 0 where
+  even : M + E ≡ N → AddedUp N M E (Some M)
+  odd : M + E ≢ N → AddedUp N M E None
 
 -- The coarse mesh has M vertices and E edges, and its half-edges have the numbers of the vertices on their edges.
-pub record CoarseNumbered (N F n : ℕ) (ring marks kept coarse numbers : List ℕ) (answer : Counted) : Type 0 where
+pub record CoarseNumbered (N F n : ℕ) (ring marks kept coarse numbers : List ℕ) (answer : Option ℕ) : Type 0 where
   pub vertices : ℕ
   pub edges : ℕ
   pub ring_c : List ℕ

@@ -1,7 +1,8 @@
 // The stages of one role, without a loop of their own: the tiles that are reached from the role's start, the coarse
 // mesh that they make, the maps, and the comparison. Each calls the crates below on the tables that the stages before
-// it made; `undo_role` calls the stages. Every table lives in a slice that the caller lends. It takes time linear in
-// vertices and triangles, and assumes nothing.
+// it made; `undo_role` calls the stages. Every table stands at the front of a slice that the caller lends, which may be
+// longer: a count beside it says how long it is. The tables are parameters and no struct, of which Rattle lends no two
+// `&mut` fields to one call. It takes time linear in vertices and triangles, and assumes nothing.
 #![tactic(auto)]
 
 ghost use Rattle.undo_cover.specs.Starts.{start_of};
@@ -9,21 +10,16 @@ ghost use Rattle.undo_stages.specs.Role.{FindLent, TilesFound, NumberTilesLent, 
 ghost use Rattle.undo_stages.specs.Maps.{VerticesLent, VerticesMapped, TrianglesLent, TrianglesMapped};
 ghost use Rattle.undo_stages.specs.Maps.{AllLent, AllCompared};
 
-use lists::{fill, gather, holds, invert, inverts, ranks, scatter};
+use lists::{Indices, fill, gather, holds, ranks, scatter};
 use mesh_faults::mark_used;
 use mesh_reach::reach;
+use mesh_rings::mesh::Mesh;
 use split::{number_edges, write_fours};
-use undo_compare::{Comparison, compare};
+use undo_compare::{Mismatch, compare};
+use undo_cover::cover::Covering;
 use undo_cover::start::start;
 use undo_match::claims::claims;
 use undo_match::select::{select, selected_ring};
-
-// How many there are of what a stage makes; or nothing, where the role has no reading.
-#[derive(Drop)]
-pub enum Counted {
-    Holds(usize),
-    Nothing,
-}
 
 // Marks the tiles that are reached from the start of a role of triangle `first`, and puts their rows one after the
 // other into `kept`. Answers how many they are, or nothing where the role has no start or they are not a quarter of
@@ -32,29 +28,24 @@ pub fn find_tiles(
     first: usize,
     role: usize,
     triangles: usize,
-    other: &[u16],
-    rows: &[u16],
-    ring: &[u16],
+    cover: Covering<'_>,
     marks: &mut [u16],
     kept: &mut [u16],
     queue: &mut [u16],
     opened: &mut [u16],
-) -> Counted
-    requires { FindLent first triangles other.now rows.now ring.now marks.old kept.old queue.old
-        opened.old }
-    ensures { TilesFound (start_of first role triangles other.now rows.now)
-        triangles rows.now ring.now marks.new kept.new result }
+) -> Option<usize>
+    requires { FindLent first triangles cover.other.now cover.rows.now cover.ring.now
+        marks.old kept.old queue.old opened.old }
+    ensures { TilesFound (start_of first role triangles cover.entry.other.now cover.entry.rows.now)
+        triangles cover.entry.rows.now cover.entry.ring.now marks.new kept.new result }
 {
-    let tile = start(first, role, triangles, other, rows);
-    if tile == triangles {
-        return Counted::Nothing;
-    }
-    reach(tile, triangles, ring, marks, queue, opened);
-    let count = select(triangles, rows, marks, kept);
+    let tile = start(first, role, triangles, cover.other, cover.rows)?;
+    reach(tile, triangles, cover.ring, marks, queue, opened);
+    let count = select(triangles, cover.rows, marks, kept);
     if 4 * count != triangles {
-        return Counted::Nothing;
+        return None;
     }
-    Counted::Holds(count)
+    Some(count)
 }
 
 // Numbers the vertices of the reached rows, which are `kept`, and the edges of the coarse mesh that the rows make: the
@@ -71,7 +62,7 @@ pub fn number_tiles(
     numbers: &mut [u16],
     rank: &mut [u16],
     table: &mut [u16],
-) -> Counted
+) -> Option<usize>
     requires { NumberTilesLent vertices triangles count ring.now marks.now kept.now coarse.old
         numbers.old rank.old table.old }
     ensures { CoarseNumbered vertices triangles count ring.now marks.now
@@ -79,24 +70,28 @@ pub fn number_tiles(
 {
     let halves = 3 * count;
     fill(table, vertices, 0);
-    mark_used(&kept[..halves], vertices, count, table);
+    let tiles = Mesh {
+        vertices,
+        triangles: count,
+        list: &kept[..halves],
+    };
+    mark_used(tiles, table);
     let kept_count = ranks(table, vertices, rank);
     gather(rank, kept, halves, coarse);
     ranks(marks, triangles, rank);
     selected_ring(triangles, ring, marks, rank, table);
     let edges = number_edges(kept_count, halves, table, numbers);
     if kept_count + edges != vertices {
-        return Counted::Nothing;
+        return None;
     }
-    Counted::Holds(kept_count)
+    Some(kept_count)
 }
 
 // Gives each vertex its number in the splitting: that of the coarse vertex to the vertices of the rows, and that on
 // the half-edge to the corners of the tiles. Answers whether each vertex got one number.
 pub fn map_vertices(
-    triangles: usize,
+    mesh: Mesh<'_>,
     count: usize,
-    list: &[u16],
     marks: &[u16],
     kept: &[u16],
     coarse: &[u16],
@@ -104,13 +99,13 @@ pub fn map_vertices(
     map: &mut [u16],
     corners: &mut [u16],
 ) -> bool
-    requires { VerticesLent triangles count list.now marks.now kept.now coarse.now numbers.now map.old
-        corners.old }
-    ensures { VerticesMapped triangles count list.now marks.now kept.now
+    requires { VerticesLent mesh.triangles count mesh.list.now marks.now kept.now coarse.now
+        numbers.now map.old corners.old }
+    ensures { VerticesMapped mesh.entry.triangles count mesh.entry.list.now marks.now kept.now
         coarse.now numbers.now map.old map.new corners.new result }
 {
     let halves = 3 * count;
-    select(triangles, list, marks, corners);
+    select(mesh.triangles, mesh.list, marks, corners);
     scatter(kept, coarse, halves, map);
     scatter(corners, numbers, halves, map);
     if !holds(kept, coarse, halves, map) {
@@ -132,26 +127,31 @@ pub fn map_triangles(
         map.new claimed.new result }
 {
     claims(triangles, marks, other, claimed);
-    invert(claimed, triangles, map);
-    inverts(claimed, triangles, map)
+    scatter(claimed, Indices, triangles, map);
+    holds(claimed, Indices, triangles, map)
 }
 
 // Compares every triangle, under the maps, with its triangle of the splitting of the coarse mesh.
 pub fn compare_all(
-    triangles: usize,
+    mesh: Mesh<'_>,
     count: usize,
-    list: &[u16],
     coarse: &[u16],
     numbers: &[u16],
     vertices: &[u16],
     faces: &[u16],
     splitting: &mut [u16],
-) -> Comparison
-    requires { AllLent triangles count list.now coarse.now numbers.now vertices.now faces.now
-        splitting.old }
-    ensures { AllCompared triangles count list.now coarse.now numbers.now
+) -> Result<(), Mismatch>
+    requires { AllLent mesh.triangles count mesh.list.now coarse.now numbers.now vertices.now
+        faces.now splitting.old }
+    ensures { AllCompared mesh.entry.triangles count mesh.entry.list.now coarse.now numbers.now
         vertices.now faces.now result }
 {
     write_fours(&coarse[..3 * count], count, numbers, splitting);
-    compare(triangles, list, vertices, faces, &splitting[..12 * count])
+    compare(
+        mesh.triangles,
+        mesh.list,
+        vertices,
+        faces,
+        &splitting[..12 * count],
+    )
 }

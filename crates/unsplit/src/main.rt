@@ -6,7 +6,7 @@
 
 mod input;
 
-use input::{Input, read_input};
+use input::read_input;
 use limits::limits::Limits;
 use program::answer;
 use program::sizes::Sizes;
@@ -15,20 +15,13 @@ use std::io::Write;
 fn main(rt: HostRuntime) {
     let mut bytes = [0u8; Sizes::INPUT];
     let mut text = [0u8; Sizes::TEXT];
-    let Input::Read(count) = read_input(&mut rt.stdin(), &mut bytes) else {
-        complain(&rt, b"unsplit: standard input cannot be read\n");
+    let Ok(count) = read_input(&mut rt.stdin(), &mut bytes) else {
+        // Where this cannot be written either, there is nobody left to tell.
+        let _ = eprintln!(rt; "unsplit: standard input cannot be read");
         return;
     };
     let long = answer(&bytes[..count], Limits::ANY_ROLE, &mut text);
     if rt.stdout().write_all(&text[..long]).is_err() {
-        complain(
-            &rt,
-            b"unsplit: the answer cannot be written to standard output\n",
-        );
+        let _ = eprintln!(rt; "unsplit: the answer cannot be written to standard output");
     }
-}
-
-// Says what went wrong on standard error. Where that cannot be written either, there is nobody left to tell.
-fn complain(rt: &HostRuntime, message: &[u8]) {
-    if rt.stderr().write_all(message).is_err() {}
 }

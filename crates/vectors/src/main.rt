@@ -4,170 +4,112 @@
 // line of numbers and by what it wrote. Where the text is not so, the last line is `wrong`.
 #![tactic(auto)]
 
+ghost use Rattle.std.specs.Prelude.{◌≤◌, length};
+
 mod buffers;
-mod numbers;
 mod present;
 mod print;
+mod text;
 mod try_read;
 mod try_split;
 mod try_undo;
 mod try_write;
 
-use io::{read_full, write_all};
-use numbers::{ANY, Found, next};
-use present::{BYTES, ENTRIES, Lent, Present};
-use try_read::{Reader, try_read, try_read_index};
+use buffers::Lent;
+use present::Present;
+use std::io;
+use std::io::Read;
+use text::{Text, Wrong};
+use try_read::{Reader, try_read};
 use try_split::try_split;
-use try_undo::{try_one, try_several};
+use try_undo::{Fate, try_one, try_several};
 use try_write::{try_write, try_write_index};
 
-// The most entries that buffers have to spare.
-const SPARE: u64 = 8;
+// The bytes that a file of cases has at most.
+const BYTES: usize = 262144;
 
-fn main() {
-    let mut text = [0u8; BYTES + 1];
-    let count = read_full(0, &mut text);
+// Why no more commands are obeyed: the text is not as it has to be, or an answer cannot be printed.
+#[derive(Debug, Drop)]
+enum Stop {
+    Wrong,
+    Unprinted,
+}
+
+impl From<Wrong> for Stop {
+    fn from(_: Wrong) -> Stop {
+        Stop::Wrong
+    }
+}
+
+impl From<io::Error> for Stop {
+    fn from(_: io::Error) -> Stop {
+        Stop::Unprinted
+    }
+}
+
+fn main(rt: HostRuntime) {
+    if let Err(Stop::Wrong) = obey_all(&rt) {
+        let _ = println!(rt; "wrong");
+    }
+}
+
+// Reads the text and obeys its commands one after the other. Each has at least one byte, so that there are no more of
+// them than bytes.
+fn obey_all(rt: &HostRuntime) -> Result<(), Stop> {
+    let mut bytes = [0u8; BYTES + 1];
+    let count = read_text(&mut rt.stdin(), &mut bytes);
     if count > BYTES {
-        write_all(1, b"wrong\n");
-        return;
+        return Err(Stop::Wrong);
     }
-    obey_all(&text[..count]);
-}
-
-// Obeys the commands of the text one after the other. Each has at least one byte, so that there are no more turns than
-// bytes; the turns after the last command find nothing.
-fn obey_all(text: &[u8]) {
-    let mut list: [u16; ENTRIES] = [0; ENTRIES];
-    let mut present = Present {
-        vertices: 0,
-        entries: 0,
-        lent: Lent {
-            spare: 0,
-            short: 0,
-            fewer: 0,
-        },
-        at: 0,
-    };
-    let mut turns = 0;
-    while turns < text.len() {
-        present = obey_next(text, present, &mut list);
-        turns += 1;
-    }
-}
-
-// Obeys the command that stands next, if any. The entries of the present mesh stand in `list`.
-fn obey_next(text: &[u8], present: Present, list: &mut [u16]) -> Present {
-    match next(text, present.at, ANY) {
-        Found::Number { value, at } => obey(value, text, present.moved(at), list),
-        Found::End => present.stopped(),
-        Found::Wrong => present.wrong(),
-    }
-}
-
-// Obeys the command of this number.
-fn obey(command: u64, text: &[u8], present: Present, list: &mut [u16]) -> Present {
-    match command {
-        2 => take_entries(text, present.entries, 3, present, list),
-        3 => try_split(present, list),
-        9 => try_write(present, list),
-        _ => obey_more(command, text, present, list),
-    }
-}
-
-// Obeys a command that has a number after it, which is taken.
-fn obey_more(command: u64, text: &[u8], present: Present, list: &mut [u16]) -> Present {
-    match next(text, present.at, ANY) {
-        Found::Number { value, at } => obey_with(command, value, text, present.moved(at), list),
-        _ => present.wrong(),
-    }
-}
-
-// Obeys a command that has this number after it.
-fn obey_with(command: u64, value: u64, text: &[u8], present: Present, list: &mut [u16]) -> Present {
-    match command {
-        1 => take_mesh(value, text, present, list),
-        4 => try_one(value, present, list),
-        5 => try_several(value, false, present, list),
-        6 => try_several(value, true, present, list),
-        7 => take_lent(value, text, present),
-        8 => try_read(Reader::Frames, value, text, present, list),
-        10 => try_read_index(value, text, present, list),
-        11 => try_write_index(value, present, list),
-        _ => present.wrong(),
-    }
-}
-
-// Takes the number of entries and the entries of a mesh of so many vertices.
-fn take_mesh(vertices: u64, text: &[u8], present: Present, list: &mut [u16]) -> Present {
-    let Found::Number { value, at } = next(text, present.at, ANY) else {
-        return present.wrong();
-    };
-    let lent = present.lent;
-    let mesh = Present {
-        vertices,
-        entries: 0,
-        lent,
-        at,
-    };
-    take_entries(text, 0, value, mesh, list)
-}
-
-// Takes `count` entries more, after the first `from`, if there is room for them.
-fn take_entries(
-    text: &[u8],
-    from: usize,
-    count: u64,
-    present: Present,
-    list: &mut [u16],
-) -> Present {
-    let end = end_of(from, count);
-    if end > list.len() {
-        return present.wrong();
-    }
-    let mut i = from;
-    let mut after = present.at;
-    while i < end {
-        let Found::Number { value, at } = next(text, after, 65535) else {
-            return present.wrong();
+    let mut text = Text::new(&bytes[..count]);
+    let mut present = Present::new();
+    for _ in 0..count {
+        let Some(command) = text.next()? else {
+            break;
         };
-        list[i] = (value % 65536) as u16;
-        after = at;
-        i += 1;
+        obey(rt, command, &mut text, &mut present)?;
     }
-    present.with_entries(end, after)
+    Ok(())
 }
 
-// The index after `count` entries from index `from` on, or one that is too large.
-fn end_of(from: usize, count: u64) -> usize {
-    if from > ENTRIES {
-        return from;
+// Reads the text into the first of these bytes, as far as there is room, and says how many they are. Where it cannot be
+// read it ends.
+fn read_text<R: Read>(input: &mut R, bytes: &mut [u8]) -> usize
+    ensures { result ≤ length bytes.new }
+{
+    let mut count = 0;
+    while count < bytes.len() {
+        match input.read(&mut bytes[count..]) {
+            Ok(more) if more > 0 => count += more,
+            _ => break,
+        }
     }
-    if count > ENTRIES as u64 {
-        return ENTRIES + 1;
-    }
-    from + count as usize
+    count
 }
 
-// Takes how buffers are lent from here on: with `spare` entries more than are needed, but the one of a number with so
-// many fewer.
-fn take_lent(spare: u64, text: &[u8], present: Present) -> Present {
-    if spare > SPARE {
-        return present.wrong();
+// Obeys the command of this number, with what stands after it in the text.
+fn obey<R: Print>(
+    rt: &R,
+    command: u64,
+    text: &mut Text,
+    present: &mut Present,
+) -> Result<(), Stop> {
+    match command {
+        1 => present.take_mesh(text)?,
+        2 => present.take_entries(3, text)?,
+        3 => try_split(rt, present)?,
+        4 => try_one(rt, text.number()?, present)?,
+        5 => try_several(rt, text.number()?, Fate::Dropped, present)?,
+        6 => try_several(rt, text.number()?, Fate::Kept, present)?,
+        7 => present.lent = Lent::take(text)?,
+        8 => try_read(rt, Reader::Frames, text, present)?,
+        9 => try_write(rt, present)?,
+        10 => {
+            let vertices = text.number()?;
+            try_read(rt, Reader::Index { vertices }, text, present)?;
+        }
+        11 => try_write_index(rt, text.number()?, present)?,
+        _ => return Err(Stop::Wrong),
     }
-    let Found::Number { value: short, at } = next(text, present.at, ANY) else {
-        return present.wrong();
-    };
-    let Found::Number { value: fewer, at } = next(text, at, ANY) else {
-        return present.wrong();
-    };
-    Present {
-        vertices: present.vertices,
-        entries: present.entries,
-        lent: Lent {
-            spare: spare as usize,
-            short,
-            fewer,
-        },
-        at,
-    }
+    Ok(())
 }

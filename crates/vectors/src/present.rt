@@ -1,120 +1,97 @@
-// The present mesh, and how buffers are lent to the calls.
-use io::write_all;
+// The present mesh.
+ghost use Rattle.std.specs.Prelude.{◌≤◌};
+ghost use Rattle.vectors.specs.declared.present.TheConstants.{ENTRIES};
 
-// The bytes that a file of cases has at most.
-pub const BYTES: usize = 262144;
+use crate::buffers::Lent;
+use crate::text::{Text, Wrong};
 
 // The entries that the present mesh has at most: those of a triangle more than are allowed.
-pub const ENTRIES: usize = 49155;
+const ENTRIES: usize = 49155;
 
-// More entries than any buffer has.
-const MANY: usize = 1000000;
-
-// Each buffer has `spare` entries more than it needs, but the buffer number `short`, counted from 1 in the order of the
-// call, has `fewer` entries fewer than it needs, or none.
-#[derive(Clone, Copy)]
-pub struct Lent {
-    pub spare: usize,
-    pub short: u64,
-    pub fewer: u64,
-}
-
-impl Lent {
-    // How many entries are lent of the buffer of this number, which needs so many.
-    pub fn room(self, number: u64, need: usize) -> usize {
-        if number == self.short {
-            return without(need, self.fewer);
-        }
-        if need >= MANY {
-            return MANY;
-        }
-        if self.spare >= MANY {
-            return MANY;
-        }
-        need + self.spare
-    }
-}
-
-// So many entries without `fewer` of them.
-fn without(entries: usize, fewer: u64) -> usize {
-    if fewer >= entries as u64 {
-        return 0;
-    }
-    entries - fewer as usize
-}
-
-// The present mesh, its vertices and the entries of its list, which stand in a buffer beside it, how buffers are lent,
-// and the index after the commands that were obeyed.
-#[derive(Clone, Copy)]
+// The present mesh, which is the first `entries` entries of `list`, and how buffers are lent. (`list` is an array and no
+// Vec: `vectors` takes no heap, as the calls take none.)
+#[derive(Drop)]
 pub struct Present {
     pub vertices: u64,
-    pub entries: usize,
+    list: [u16; ENTRIES],
+    entries: usize,
     pub lent: Lent,
-    pub at: usize,
+    ghost within: { entries ≤ ENTRIES },
 }
 
 impl Present {
-    // The same, further on in the text.
-    pub fn moved(self, at: usize) -> Present {
-        self.with_entries(self.entries, at)
-    }
-
-    // The same vertices with another number of entries, further on in the text.
-    pub fn with_entries(self, entries: usize, at: usize) -> Present {
-        let lent = self.lent;
+    // No mesh.
+    pub fn new() -> Present {
         Present {
-            vertices: self.vertices,
-            entries,
-            lent,
-            at,
+            vertices: 0,
+            list: [0; ENTRIES],
+            entries: 0,
+            lent: Lent::default(),
         }
     }
 
-    // Ends the answers by saying that the text is not as it has to be.
-    pub fn wrong(self) -> Present {
-        write_all(1, b"wrong\n");
-        self.stopped()
+    pub fn list(&self) -> &[u16] {
+        &self.list[..self.entries]
     }
 
-    // After every text, where no command stands.
-    pub fn stopped(self) -> Present {
-        self.moved(BYTES)
+    // Takes the vertices, the number of entries and the entries of a mesh from the text.
+    pub fn take_mesh(&mut self, text: &mut Text) -> Result<(), Wrong> {
+        self.vertices = text.number()?;
+        self.entries = 0;
+        let count = text.number()?;
+        self.take_entries(count, text)
+    }
+
+    // Takes so many entries more from the text, if there is room for them.
+    pub fn take_entries(&mut self, count: u64, text: &mut Text) -> Result<(), Wrong> {
+        for _ in 0..count {
+            if self.entries >= ENTRIES {
+                return Err(Wrong);
+            }
+            self.list[self.entries] = text.entry()?;
+            self.entries += 1;
+        }
+        Ok(())
+    }
+
+    // Puts another mesh in the place of this one, as far as there is room. The entries go one by one: the borrow
+    // checker lends no slice of an array that has a ghost field beside it.
+    pub fn keep(&mut self, vertices: u64, list: &[u16]) {
+        let entries = list.len().min(ENTRIES);
+        self.vertices = vertices;
+        self.entries = entries;
+        for i in 0..entries {
+            self.list[i] = list[i];
+        }
     }
 
     // The triangles of the list, of which the last may lack corners.
-    pub fn triangles(self) -> usize {
+    pub fn triangles(&self) -> usize {
         self.entries / 3
     }
 
     // What the coarse mesh of a reading needs.
-    pub fn coarse_need(self) -> usize {
+    pub fn coarse_need(&self) -> usize {
         self.entries / 12 * 3
     }
 
-    // What the output of a split needs, or more than there is.
-    pub fn split_need(self) -> usize {
-        if self.entries >= MANY {
-            return MANY;
-        }
+    // What the output of a split needs.
+    pub fn split_need(&self) -> usize {
         self.entries / 3 * 12
     }
 
-    // What the output of writing frames needs, or more than there is.
-    pub fn write_need(self) -> usize {
-        if self.entries >= MANY {
-            return MANY;
-        }
+    // What the output of undo several needs.
+    pub fn several_need(&self) -> usize {
+        self.entries / 3 * 3
+    }
+
+    // What the output of writing frames needs.
+    pub fn write_need(&self) -> usize {
         self.entries / 3 * 15 + 11
     }
 
-    // What each work buffer needs (docs/ROOM.md), or more than there is.
-    pub fn work_need(self) -> usize {
-        if self.vertices >= MANY as u64 {
-            return MANY;
-        }
-        if self.entries >= MANY {
-            return MANY;
-        }
-        self.vertices as usize + self.entries / 3 * 3
+    // What each work buffer needs (docs/ROOM.md).
+    pub fn work_need(&self) -> usize {
+        (self.vertices as usize).saturating_add(self.several_need())
     }
 }

@@ -1,20 +1,13 @@
-use native.Mathlib.Omega.{arith}
-use borrow.Author.Count.{below_more}
+-- `lists::first_zero` meets its contract: the first entry that `position` lets pass is the first 0.
+use Rattle.std.proofs.Common.{rules, tests, take, ◌≡◌, ◌≢◌}
+use Rattle.std.proofs.lemmas.Iterator.{YieldsList-from_slice, IsFirst-from_position}
+use Rattle.lists.proofs.Places.{least-first}
 use Rattle.lists.proofs.first_zero.Goals as goal
 
-pub loop-i-init : goal.loop-i-init
-loop-i-init c = (omega arith, c.requires, λ k l. absurd (omega arith))
-
-pub returns-then-s-i-eq0 : goal.returns-then-s-i-eq0
-returns-then-s-i-eq0 c = record { within = omega arith; here = λ _. c.if-s-i-eq0.true; before = c.loop-i.invariant.2 }
-
-pub loop-i-preserved : goal.loop-i-preserved
-loop-i-preserved c = let inv = c.loop-i.invariant in
-    (omega arith, inv.1, below_more _ _ inv.2 c.if-s-i-eq0.false)
-
 pub returns : goal.returns
-returns c = record {
-  within = omega arith;
-  here = λ l. absurd (omega arith);
-  before = λ k l. c.loop-i.invariant.2 k (omega arith);
-}
+returns c =
+    least-first (λ x. x ≡ 0) (λ x. x ≢ 0) _ c.requires (λ k e. e) (λ k ne. ne) _
+    (IsFirst-from_position _ _ _ (λ x. x ≡ 0) (λ x. x ≢ 0) c.position.ensures.ran
+    (YieldsList-from_slice (take c.args.n c.args.s.now) (search rules))
+    (λ x q k. search (rules, tests))
+    (λ x q k. search (rules, tests)))

@@ -1,26 +1,21 @@
-use Prim.Native.Nat.{ℕ, ◌+◌, ◌*◌, ◌/◌, ◌≤◌, ◌<◌}
+use Prim.Native.Nat.{ℕ, ◌+◌, ◌*◌, ◌/◌, ◌<◌}
 use native.Mathlib.Omega.{arith}
 use mathlib.Core.Path.{◌≡◌, ◌∙◌, refl, sym, ap}
 use mathlib.Core.Logic.{◌≢◌}
-use mathlib.Core.Bool.{Bool, true, false}
 use mathlib.Core.List.{List}
 use borrow.Author.Count.{below_more}
 use lib.ListN.{length}
 use Rattle.theory.specs.Mesh.{at}
 use Rattle.theory.specs.Refusals.{EqualCorners}
-use Rattle.lists.specs.Places.{Place}
+use Rattle.lists.specs.Places.Least.{found, none}
+use Rattle.lists.proofs.Decides.{false-true}
 use Rattle.lists.proofs.Lists.{by-eq, by-lt}
-use Rattle.mesh_faults.specs.Faults.{TwoEqual, ab, bc, ca, HasEqual}
-use Rattle.mesh_faults.proofs.equal_corners.Invariants.{Turn}
+use Rattle.mesh_faults.specs.Faults.{TwoEqual, ab, bc, ca}
 use Rattle.mesh_faults.proofs.equal_corners.Goals as goal
 
 -- Two of the corners of triangle k hold the same vertex.
 abbrev Twice : List ℕ → ℕ → Type 0
 Twice T k = TwoEqual (at T (3 * k)) (at T (3 * k + 1)) (at T (3 * k + 2))
-
--- What `has_equal` answers of triangle k.
-abbrev Answer : List ℕ → ℕ → Bool → Type 0
-Answer T k = HasEqual (at T (3 * k)) (at T (3 * k + 1)) (at T (3 * k + 2))
 
 module _ {T : List ℕ} where
   -- two different corners of triangle k that hold the same vertex
@@ -58,42 +53,15 @@ module _ {T : List ℕ} where
           (λ t. ca (ap (at T) (omega arith) ∙ sym e ∙ ap (at T) s)))
           (λ s. bc (ap (at T) (omega arith) ∙ e ∙ ap (at T) (omega arith)))
 
-module _ {T : List ℕ} {F k : ℕ} (S : Turn T F k) where
-  -- triangle k has three different corners
-  turned : {answer : Bool} → k < F → Answer T k answer → answer ≡ false → Turn T F (k + 1)
-  turned l H refused = record { lent = S.lent; within = omega arith; passed = below_more _ _ S.passed different }
-    where
-      different : EqualCorners T k → ⊥
-      different Q =
-          let granted = H.complete (equal-twice k Q) in
-          let z : ◌≡◌ {A = ℕ} 0 1 = cc in omega arith
-
-  -- triangle k has two equal corners, and is the least that has
-  found : {answer : Bool} → k < F → Answer T k answer → answer ≡ true → Place (EqualCorners T) F k
-  found l H granted =
-      record {
-        within = omega arith;
-        here = λ _. twice-equal k (omega arith) (H.sound granted);
-        before = S.passed;
-      }
-
-  -- no triangle has two equal corners
-  finished : F ≤ k → Place (EqualCorners T) F F
-  finished l =
-      record {
-        within = omega arith;
-        here = λ b. absurd (omega arith);
-        before = λ j b. S.passed j (omega arith);
-      }
-
-pub loop-k-init : goal.loop-k-init
-loop-k-init c = record { lent = c.requires; within = omega arith; passed = λ j l. absurd (omega arith) }
-
 pub returns-then-has_equal : goal.returns-then-has_equal
-returns-then-has_equal c = found c.loop-k.invariant c.loop-k-test.true c.has_equal.ensures c.if-has_equal.true
+returns-then-has_equal c =
+    found c.loop-k-test.true (twice-equal _ (omega arith) (c.has_equal.ensures.sound c.if-has_equal.true))
+    c.loop-k.invariant
 
 pub loop-k-preserved : goal.loop-k-preserved
-loop-k-preserved c = turned c.loop-k.invariant c.loop-k-test.true c.has_equal.ensures c.if-has_equal.false
+loop-k-preserved c =
+    below_more _ _ c.loop-k.invariant
+    (λ Q. false-true (sym c.if-has_equal.false ∙ c.has_equal.ensures.complete (equal-twice _ Q)))
 
 pub returns : goal.returns
-returns c = finished c.loop-k.invariant c.loop-k-test.false
+returns c = none (λ k l. c.loop-k.invariant k (omega arith))

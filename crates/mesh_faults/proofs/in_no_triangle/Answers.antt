@@ -2,27 +2,15 @@
 use Prim.Native.Nat.{ℕ, ◌*◌, ◌/◌, ◌<◌}
 use native.Mathlib.Omega.{arith}
 use mathlib.Core.Path.{◌≡◌, refl}
-use mathlib.Core.List.{List, ◌++◌}
-use lib.ListN.{drop, replicate}
+use mathlib.Core.List.{List}
 use Rattle.theory.specs.Mesh.{at}
 use Rattle.theory.specs.Refusals.{InNoTriangle}
-use Rattle.lists.specs.Places.{Place}
-use Rattle.lists.proofs.Lists.{at-filled, length-filled}
+use Rattle.std.proofs.Common.{Option}
+use Rattle.lists.specs.Places.{Least}
+use Rattle.lists.proofs.Places.{least-alike}
 use Rattle.mesh_rings.specs.Tables.{Listed}
-use Rattle.mesh_faults.specs.Faults.{UsedLent, MarksLent, UsedMark, used, unused, UsedMarks}
+use Rattle.mesh_faults.specs.Faults.{UsedMark, used, unused, UsedMarks}
 use Rattle.mesh_faults.proofs.in_no_triangle.Goals as goal
-
--- what `mark_used` requires, once the marks are cleared
-cleared : {N F : ℕ} {T marks marks' : List ℕ} → UsedLent N F T marks → marks' ≡ replicate N 0 ++ drop N marks
-    → MarksLent N F T marks'
-cleared {N} {marks = marks} L e =
-    rw e (
-    record {
-      listed = L.listed;
-      room = omega (arith, length-filled N 0 marks (omega arith));
-      clear = at-filled N 0 marks;
-    }
-    )
 
 -- a vertex whose mark is 0 is held by no corner
 unmarked : {T : List ℕ} {n v w : ℕ} → UsedMark T n v w → w ≡ 0 → (c : ℕ) → c < n → at T c ≡ v → ⊥
@@ -35,24 +23,15 @@ none-unmarked (used d l p) none = absurd (none d l p)
 none-unmarked (unused _) none = refl
 
 -- the least mark that is 0 is that of the least vertex in no triangle
-least : {N F : ℕ} {T marks : List ℕ} {r : ℕ} → Listed N F T → UsedMarks N T (3 * F) marks
-    → Place (λ v. at marks v ≡ 0) N r → Place (InNoTriangle N T) N r
-least {r = r} L M P =
-    record {
-      within = P.within;
-      here = λ l.
-          record {
-            inside = l;
-            nowhere = λ k o. unmarked (M.mark r l) (P.here l) o.corner (omega arith) o.holds;
-          };
-      before = λ v l Q.
-          P.before v l
-          (none-unmarked (M.mark v (omega arith))
-          (λ c b e. Q.nowhere (c / 3) (record { corner = c; inside = omega arith; triangle = refl; holds = e })));
-    }
-
-pub mark_used-requires : goal.mark_used-requires
-mark_used-requires c = cleared c.requires c.fill.ensures
+least : {N F : ℕ} {T marks : List ℕ} {r : Option ℕ} → Listed N F T → UsedMarks N T (3 * F) marks
+    → Least (λ v. at marks v ≡ 0) N r → Least (InNoTriangle N T) N r
+least L M =
+    least-alike
+    (λ v l e.
+    record { inside = l; nowhere = λ k o. unmarked (M.mark v l) e o.corner (omega arith) o.holds })
+    (λ v l Q.
+    none-unmarked (M.mark v l)
+    (λ c b e. Q.nowhere (c / 3) (record { corner = c; inside = omega arith; triangle = refl; holds = e })))
 
 pub returns : goal.returns
 returns c = least c.requires.listed c.mark_used.ensures c.first_zero.ensures

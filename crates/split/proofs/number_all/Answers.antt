@@ -1,9 +1,6 @@
-use native.Mathlib.Omega.{arith}
-use Prim.Native.Nat.{ℕ, ◌+◌, ◌≤◌, ◌<◌}
-use mathlib.Core.Path.{◌≡◌, ◌∙◌, refl, sym, ap}
-use mathlib.Core.Logic.{◌≢◌}
-use mathlib.Core.List.{List}
-use lib.ListN.{length, length-set, set}
+-- `split::number_all` meets its contract.
+use Rattle.std.proofs.Common.{◌≡◌, ◌≢◌, ◌∙◌, refl, sym, ap, ℕ, ◌+◌, ◌≤◌, ◌<◌, List, length, set, arith}
+use lib.ListN.{length-set}
 use Rattle.theory.specs.Mesh.{at}
 use Rattle.theory.specs.Counting.{count}
 use Rattle.theory.specs.Splitting.{first_on, is_first, edge_no}
@@ -11,26 +8,17 @@ use Rattle.theory.proofs.Counting.{count-le}
 use Rattle.theory.proofs.Splitting.{first_on-le}
 use Rattle.lists.proofs.Lists.{by-eq, at_set}
 use Rattle.mesh_rings.specs.Ring.{FollowsBy, RingBy}
-use Rattle.split.specs.Numbers.{Numbered, UnnumberedLent, OneLent, OneNumbered, next, same}
+use Rattle.split.specs.Numbers.{OneNumbered, next, same}
 use Rattle.split.proofs.Numbering.{edge_no-first, edge_no-own, edge_no-given, first_on-own, counted, uncounted}
 use Rattle.split.proofs.Numbering.{edges-all, follows_next}
-use Rattle.split.proofs.number_all.Invariants.{Handed, Turn}
+use Rattle.split.proofs.number_all.Invariants.{Handed}
 use Rattle.split.proofs.number_all.Goals as goal
 
 -- no half-edge has a number at first
-begun : {N n : ℕ} {ring numbers : List ℕ} → UnnumberedLent N n ring numbers → Turn N n ring numbers numbers 0 0
+begun : {N n : ℕ} {T numbers : List ℕ} → ((h : ℕ) → h < n → at numbers h ≡ N + n) → Handed N n T numbers 0 0
 unfolding count
-begun L =
-    record {
-      lent = L.lent;
-      within = omega arith;
-      long = refl;
-      handed = λ T whole R. record {
-        given = λ g l b. absurd (omega arith);
-        none = λ g l b e. L.none g b;
-        total = refl;
-      };
-    }
+begun none =
+    record { given = λ g l b. absurd (omega arith); none = λ g l b e. none g b; total = refl }
 
 module _ {N n : ℕ} {T ring numbers : List ℕ} {E h : ℕ} (R : RingBy n (first_on T) ring) (H : Handed N n T numbers E h)
     (l : h < n) (room : n ≤ length numbers) where
@@ -93,63 +81,32 @@ module _ {N n : ℕ} {T ring numbers : List ℕ} {E h : ℕ} (R : RingBy n (firs
       other : first_on T h ≢ h
       other s = d (H.none h (omega arith) l s)
 
-module _ {N n : ℕ} {ring numbers₀ numbers : List ℕ} {E h : ℕ} (I : Turn N n ring numbers₀ numbers E h) where
-  -- the half-edges have room
-  room : n ≤ length numbers
-  room = omega (arith, I.long, I.lent.numbers_room)
-
-  -- no more edges than half-edges have appeared
-  edges_few : E ≤ h
-  edges_few =
-      let L = I.lent in
-      omega (arith, (I.handed L.list L.whole L.ringed).total, count-le (is_first L.list) h)
-
-  -- what `number` requires
-  numberable : {v k : ℕ} → h < n → v ≡ at ring h → k ≤ h → OneLent h v N k numbers
-  numberable l e few =
-      let L = I.lent in
-      record {
-        room = omega (arith, room);
-        next_room = omega (arith, room, (L.ringed.follows h l).within);
-        small = omega (arith, L.small);
-      }
-
-  -- one turn
-  turned : {v E' : ℕ} {numbers' : List ℕ} → h < n → v ≡ at ring h → length numbers' ≡ length numbers
-      → OneNumbered h v (N + n) N E numbers E' numbers' → Turn N n ring numbers₀ numbers' E' (h + 1)
-  turned l e long O =
-      record {
-        lent = I.lent;
-        within = omega arith;
-        long = long ∙ I.long;
-        handed = λ T whole R. one_more R (I.handed T whole R) l room whole (rw e at O);
-      }
-
-  -- at n all have their numbers
-  finished : n ≤ h → Numbered N n ring E numbers
-  finished l =
-      let e : h ≡ n = omega (arith, I.within) in
-      record {
-        number = λ T whole R. record {
-          entry = λ g b.
-              (I.handed T whole R).given g b (omega (arith, first_on-le T g)) (λ f p q. absurd (omega arith));
-        };
-        total = λ T whole R. (I.handed T whole R).total ∙ rw e (edges-all T whole);
-      }
+-- no more edges than half-edges have appeared
+edges_few : {N n : ℕ} {T numbers : List ℕ} {E h : ℕ} → Handed N n T numbers E h → E ≤ h
+edges_few {T = T} {h = h} H = omega (arith, H.total, count-le (is_first T) h)
 
 pub loop-h-init : goal.loop-h-init
-loop-h-init c = begun c.requires
+loop-h-init c T whole R = begun c.requires.none
 
 pub number-edges-requires : goal.number-edges-requires
-number-edges-requires c = let turn = c.loop-h.invariant in
-    numberable turn c.loop-h-test.true c.at.ensures (omega (arith, edges_few turn))
+number-edges-requires c = let L = c.requires.lent in
+    record {
+      room = omega arith;
+      next_room = omega (arith, c.at.ensures, (L.ringed.follows c.loop-h.h c.loop-h-test.true).within);
+      small = omega (arith, edges_few (c.loop-h.invariant L.list L.whole L.ringed));
+    }
 
 pub loop-h-preserved : goal.loop-h-preserved
-loop-h-preserved c = turned c.loop-h.invariant c.loop-h-test.true c.at.ensures
-    c.number-edges.auto.numbers c.number-edges.ensures
-
-pub shape_of-numbers : goal.shape_of-numbers
-shape_of-numbers c = c.loop-h.invariant.long
+loop-h-preserved c T whole R =
+    one_more R (c.loop-h.invariant T whole R) c.loop-h-test.true (omega arith) whole
+    (rw c.at.ensures at c.number-edges.ensures)
 
 pub returns : goal.returns
-returns c = finished c.loop-h.invariant c.loop-h-test.false
+returns c = let e : c.loop-h.h ≡ c.args.halves = omega (arith, c.loop-h.auto.h-end) in
+    record {
+      number = λ T whole R. record {
+        entry = λ g b.
+            (c.loop-h.invariant T whole R).given g b (omega (arith, first_on-le T g)) (λ f p q. absurd (omega arith));
+      };
+      total = λ T whole R. (c.loop-h.invariant T whole R).total ∙ rw e (edges-all T whole);
+    }

@@ -1,15 +1,10 @@
--- `split::number_all` meets its contract. The loop's invariant, for every list that the rings are those of: of the
--- edges that appear before h, all half-edges below h have the edge's number, and so has the next one; the first
--- half-edge of any other edge has none. The measure is what is left of the half-edges.
-use Prim.Native.Nat.{ℕ, ◌+◌, ◌-◌, ◌≤◌, ◌<◌}
-use mathlib.Core.Path.{◌≡◌}
-use mathlib.Core.List.{List}
-use lib.ListN.{length}
+-- `split::number_all`: for every list that the rings are those of: of the edges that appear before h, all half-edges
+-- below h have the edge's number, and so has the next one; the first half-edge of any other edge has none.
+use Rattle.std.proofs.Common.{◌≡◌, ℕ, ◌+◌, ◌≤◌, ◌<◌, List, length}
 use Rattle.theory.specs.Mesh.{at}
 use Rattle.theory.specs.Counting.{count}
 use Rattle.theory.specs.Splitting.{first_on, is_first, edge_no}
 use Rattle.mesh_rings.specs.Ring.{RingBy}
-use Rattle.split.specs.Numbers.{NumberLent}
 use Rattle.split.proofs.number_all.Given as goal
 
 -- Of the edges of T that appear before h, half-edge g has the number if it is below h or the next on its edge from h
@@ -20,15 +15,7 @@ pub record Handed (N n : ℕ) (T numbers : List ℕ) (E h : ℕ) : Type 0 where
   pub none : (g : ℕ) → h ≤ g → g < n → first_on T g ≡ g → at numbers g ≡ N + n
   pub total : E ≡ count (is_first T) h
 
--- The same of every list that the rings are those of, and what the loop is lent.
-pub record Turn (N n : ℕ) (ring numbers₀ numbers : List ℕ) (E h : ℕ) : Type 0 where
-  pub lent : NumberLent N n ring numbers₀
-  pub within : h ≤ n
-  pub long : length numbers ≡ length numbers₀
-  pub handed : (T : List ℕ) → length T ≡ n → RingBy n (first_on T) ring → Handed N n T numbers E h
-
 abbrev pub invariant-loop-h : goal.invariant-loop-h
-invariant-loop-h l = Turn l.vertices l.halves l.ring l.initial.numbers l.numbers l.edges l.h
-
-abbrev pub decreases-loop-h : goal.decreases-loop-h
-decreases-loop-h l = l.halves - l.h
+invariant-loop-h l =
+    (T : List ℕ) → length T ≡ l.halves → RingBy l.halves (first_on T) l.ring
+    → Handed l.vertices l.halves T l.numbers l.edges l.h

@@ -4,17 +4,16 @@ use Prim.Native.Nat.{ℕ}
 use mathlib.Core.Path.{◌≡◌, ap, subst}
 use mathlib.Core.List.{List}
 use Rattle.answers.specs.declared.counts.Counts.{Counts}
-use Rattle.answers.specs.declared.taken.Taken.{Taken}
-use Rattle.answers.specs.declared.taken.Taken.TheVariants as taken
-use Rattle.answers.proofs.Arms.{no-reading}
+use Rattle.std.specs.Prelude.{Option}
+use Rattle.answers.specs.declared.taken.RoleRead.{RoleRead}
 use Rattle.undo_level.specs.Level.{LevelTried}
 use Rattle.undo_levels.proofs.Levels.{levels-level, levels-reached, levels-stopped}
 use Rattle.undo_levels.proofs.Levels.{tried-coarser, levels-kept, levels-lent, levels-more, levels-undone}
 use Rattle.undo_levels.proofs.+undo_levels.Goals as goal
 
--- the level that is undone, in the arm of a reading
-level : {N F : ℕ} {T coarse ring : List ℕ} {tried : Taken} {role kept centres : ℕ} → LevelTried N F T coarse ring tried
-    → tried ≡ taken.Reading role kept centres → LevelTried N F T coarse ring (taken.Reading role kept centres)
+-- the level that was tried, by what it came to
+level : {N F : ℕ} {T coarse ring : List ℕ} {tried seen : Option RoleRead} → LevelTried N F T coarse ring tried
+    → tried ≡ seen → LevelTried N F T coarse ring seen
 level L e = subst (LevelTried _ _ _ _ _) e L
 
 pub returns-then-allowance-eq0 : goal.returns-then-allowance-eq0
@@ -26,11 +25,11 @@ undo_least-requires t c = levels-level c.requires
 
 pub returns-in_default : goal.returns-in_default
 returns-in_default t c =
-    levels-stopped c.requires c.if-allowance-eq0.false c.undo_least.ensures (no-reading _ c.in_default.not-Reading)
+    levels-stopped c.requires c.if-allowance-eq0.false (level c.undo_least.ensures c.in_default.is)
     c.stop-in_default.ensures.said c.stop-in_default.ensures.left
 
 pub coarse_counts-requires : goal.coarse_counts-requires
-coarse_counts-requires t c = levels-kept c.requires (level c.undo_least.ensures c.in-Reading.is)
+coarse_counts-requires t c = levels-kept c.requires (level c.undo_least.ensures c.in-Some.is)
 
 pub undo_levels-rest-requires : goal.undo_levels-rest-requires
 undo_levels-rest-requires t c = (
@@ -47,16 +46,16 @@ undo_levels-rest-requires t c = (
         faces = c.undo_least.auto.faces;
         table = c.undo_least.auto.table;
       })
-      (level c.undo_least.ensures c.in-Reading.is) c.coarse_counts.ensures,
+      (level c.undo_least.ensures c.in-Some.is) c.coarse_counts.ensures,
 )
 
 pub one_more-requires : goal.one_more-requires
 one_more-requires t c =
-    levels-more (tried-coarser (level c.undo_least.ensures c.in-Reading.is))
+    levels-more (tried-coarser (level c.undo_least.ensures c.in-Some.is))
     (omega (arith, c.requires.few, c.if-allowance-eq0.false)) c.undo_levels-rest.ensures
 
 pub returns : goal.returns
 returns t c =
-    levels-undone c.if-allowance-eq0.false (tried-coarser (level c.undo_least.ensures c.in-Reading.is))
+    levels-undone c.if-allowance-eq0.false (tried-coarser (level c.undo_least.ensures c.in-Some.is))
     (ap (λ (k : Counts). k.vertices) c.coarse_counts.ensures)
     (ap (λ (k : Counts). k.triangles) c.coarse_counts.ensures) c.undo_levels-rest.ensures c.one_more.ensures

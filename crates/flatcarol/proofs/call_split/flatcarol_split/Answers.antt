@@ -1,7 +1,8 @@
--- `flatcarol::call_split::flatcarol_split` meets its contract: the verdict on its sizes by the shortest work buffer is that by all of
--- them, `split_mesh` does what the call promises for when the work buffers are cleared, and `clear_five` clears them.
-use mathlib.Core.Path.{◌∙◌}
+-- `flatcarol::call_split::flatcarol_split` meets its contract: the verdict on its sizes by the shortest work buffer is
+-- that by all of them, `split_mesh` does what the call promises for when the work buffers are cleared, and `clear_five`
+-- clears them.
 use mathlib.Core.List.{[], ◌∷◌}
+use Rattle.std.proofs.Common.{rules}
 use lib.ListN.{length}
 use Rattle.theory.specs.Mesh.{triangles}
 use Rattle.theory.specs.Limits.{most_split_triangles}
@@ -15,37 +16,21 @@ pub split_mesh-answer-requires : goal.split_mesh-answer-requires
 split_mesh-answer-requires c =
     let a = c.args in
     record {
-      judged = judged-by-all (size_rules most_split_triangles a.vertices (length a.list.now)) a.vertices (triangles a.list.now)
+      judged = judged-by-all (size_rules most_split_triangles a.vertices (length a.list.now)) a.vertices
+          (triangles a.list.now)
           (split_rooms a.vertices (triangles a.list.now) (length a.out.now) [])
-          (length a.work1.now) (length a.work2.now ∷ length a.work3.now ∷ length a.work4.now ∷ length a.work5.now ∷ []) c.shortest_of_five-work.ensures
-          c.judge_split_size-number.ensures;
+          (length a.work1.now) (length a.work2.now ∷ length a.work3.now ∷ length a.work4.now ∷ length a.work5.now ∷ [])
+          c.shortest-work.ensures c.judge_split_size-sized.ensures;
     }
-
-pub shape_of-out : goal.shape_of-out
-shape_of-out c = c.split_mesh-answer.auto.out
-
-pub shape_of-work1 : goal.shape_of-work1
-shape_of-work1 c = c.clear_five.auto.a ∙ c.split_mesh-answer.auto.ring
-
-pub shape_of-work2 : goal.shape_of-work2
-shape_of-work2 c = c.clear_five.auto.b ∙ c.split_mesh-answer.auto.work1
-
-pub shape_of-work3 : goal.shape_of-work3
-shape_of-work3 c = c.clear_five.auto.c ∙ c.split_mesh-answer.auto.work2
-
-pub shape_of-work4 : goal.shape_of-work4
-shape_of-work4 c = c.clear_five.auto.d ∙ c.split_mesh-answer.auto.work3
-
-pub shape_of-work5 : goal.shape_of-work5
-shape_of-work5 c = c.clear_five.auto.e ∙ c.split_mesh-answer.auto.work4
 
 pub returns : goal.returns
 returns c =
     let a = c.args in
     let u = c.split_mesh-answer in
-    rw (used-cleared
-    (a.work1.now ∷ a.work2.now ∷ a.work3.now ∷ a.work4.now ∷ a.work5.now ∷ [])
-    (u.new.ring ∷ u.new.work1 ∷ u.new.work2 ∷ u.new.work3 ∷ u.new.work4 ∷ [])
-    (c.clear_five.new.a ∷ c.clear_five.new.b ∷ c.clear_five.new.c ∷ c.clear_five.new.d ∷ c.clear_five.new.e ∷ [])
-    (u.auto.ring, (u.auto.work1, (u.auto.work2, (u.auto.work3, (u.auto.work4, tt)))))
-    c.clear_five.ensures) u.ensures
+    rw (
+      c.into.ensures,
+      used-cleared
+          (a.work1.now ∷ a.work2.now ∷ a.work3.now ∷ a.work4.now ∷ a.work5.now ∷ [])
+          (u.new.ring ∷ u.new.work1 ∷ u.new.work2 ∷ u.new.work3 ∷ u.new.work4 ∷ [])
+          _ (search rules) c.clear_five.ensures,
+    ) u.ensures

@@ -1,19 +1,11 @@
-use Rattle.frames_write.proofs.Appends.{put-length, row-begun, row_room, row_more, row_done, map_lines-row}
+-- `frames_write::text::put_map` meets its contract.
+use Rattle.frames_write.proofs.Appends.{row_room, row_more, mapped-row, mapped-all}
 use Rattle.frames_write.proofs.text.put_map.Goals as goal
 
-pub loop-k-init : goal.loop-k-init
-loop-k-init c = let lent = c.requires in
-    (lent.listed, row-begun (map_lines-row _ _ _ lent.listed) lent.room)
-
-pub put_entry-next-requires : goal.put_entry-next-requires
-put_entry-next-requires c = rw c.at.ensures (row_room c.loop-k.invariant.1 c.loop-k-test.true)
+pub put_entry-requires : goal.put_entry-requires
+put_entry-requires c =
+    rw c.at.ensures (row_room (mapped-row _ _) (rw (mapped-all _ _) c.requires) c.loop-k.invariant c.loop-k-test.true)
 
 pub loop-k-preserved : goal.loop-k-preserved
-loop-k-preserved c = let put = rw c.at.ensures at c.put_entry-next.ensures in
-    (c.loop-k.invariant.0, row_more c.loop-k.invariant.1 c.loop-k-test.true put)
-
-pub shape_of-out : goal.shape_of-out
-shape_of-out c = put-length c.loop-k.invariant.1.put
-
-pub returns : goal.returns
-returns c = row_done c.loop-k.invariant.1 c.loop-k-test.false
+loop-k-preserved c =
+    row_more (mapped-row _ _) c.loop-k-test.true c.loop-k.invariant (rw c.at.ensures at c.put_entry.ensures)

@@ -9,14 +9,15 @@ use Rattle.index_read.specs.Faces.{CornersLent}
 use Rattle.index_read.proofs.Walks.{Walk}
 use Rattle.index_read.proofs.corners.write_corners.Given as goal
 
-pub record Turn (text out₀ out : List ℕ) (at corners face : ℕ) : Type 0 where
+pub record Turn (text out₀ out : List ℕ) (at corners : ℕ) : Type 0 where
   pub lent : CornersLent text out₀
   pub so_far : List ℕ
+  pub face : ℕ
   pub walk : Walk text so_far at corners face
   pub stored : out ≡ sets out₀ 0 so_far
 
 abbrev pub invariant-loop-at : goal.invariant-loop-at
-invariant-loop-at l = Turn l.text l.initial.out l.out l.at l.corners l.face
+invariant-loop-at l = Turn l.text l.initial.out l.out l.at l.corners
 
 abbrev pub decreases-loop-at : goal.decreases-loop-at
 decreases-loop-at l = length l.text - l.at

@@ -12,7 +12,7 @@ pub record Turn (text : List ℕ) (at corners face : ℕ) : Type 0 where
   pub walk : Walk text so_far at corners face
 
 abbrev pub invariant-loop-at : goal.invariant-loop-at
-invariant-loop-at l = Turn l.text l.at l.corners l.face
+invariant-loop-at l = Turn l.text l.at l.so_far.corners l.so_far.face
 
 abbrev pub decreases-loop-at : goal.decreases-loop-at
 decreases-loop-at l = length l.text - l.at

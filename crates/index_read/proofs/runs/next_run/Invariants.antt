@@ -2,7 +2,7 @@
 -- on, where no separator stands. The measure is the number of bytes left.
 use Prim.Native.Nat.{◌-◌}
 use lib.ListN.{length}
-use Rattle.index_read.specs.Runs.{SeparatorsPassed}
+use Rattle.index_read.proofs.Stretches.{SeparatorsPassed}
 use Rattle.index_read.proofs.runs.next_run.Given as goal
 
 abbrev pub invariant-loop-at : goal.invariant-loop-at

@@ -1,15 +1,13 @@
 -- `limits::size::judge_size` meets its contract: 2 by `judge_threes`, 3 by the test, and 4 by `judge_large`.
 use native.Mathlib.Omega.{arith}
-use Rattle.limits.proofs.Judgement.{judged-at-0, judged-not, judged-passed, judged-front, judged-back}
+use Rattle.limits.proofs.Judgement.{judged-at-0, judged-not, judged-then, judged-exit}
 use Rattle.limits.proofs.size.judge_size.Goals as goal
 
-pub returns-then-number-ne0 : goal.returns-then-number-ne0
-returns-then-number-ne0 c = judged-front _ c.judge_threes-number.ensures c.if-number-ne0.true
+pub returns-in_err-judge_threes : goal.returns-in_err-judge_threes
+returns-in_err-judge_threes c = judged-exit _ _ _ c.in_err-judge_threes.ensures c.from_residual.ensures.1
 
 pub returns-then-triangles-eq0 : goal.returns-then-triangles-eq0
-returns-then-triangles-eq0 c = judged-back _ (judged-passed c.judge_threes-number.ensures c.if-number-ne0.false (omega arith))
-    (judged-at-0 (omega arith))
+returns-then-triangles-eq0 c = judged-then _ c.in_ok-judge_threes.ensures (omega arith) (judged-at-0 (omega arith))
 
 pub returns : goal.returns
-returns c = judged-back _ (judged-passed c.judge_threes-number.ensures c.if-number-ne0.false (omega arith))
-    (judged-not (λ e. omega arith) c.judge_large.ensures)
+returns c = judged-then _ c.in_ok-judge_threes.ensures (omega arith) (judged-not (λ e. omega arith) c.judge_large.ensures)
