@@ -1,25 +1,24 @@
 -- The seven places of the roles.
-use Prim.Native.Nat.{ℕ, ◌-◌}
+use Prim.Native.Nat.{ℕ, ◌≤◌}
 use native.Mathlib.Omega.{arith}
 use mathlib.Core.Path.{◌≡◌, refl, ap, ◌∙◌}
 use mathlib.Core.List.{List, [], ◌∷◌, ◌++◌}
-use lib.ListN.{length, take, drop, set, replicate, length-take, length-append}
+use lib.ListN.{length, take, replicate, length-take, length-append}
 use lib.Seq.{take-take}
 use Rattle.theory.specs.Limits.{most_levels}
+use Rattle.theory.specs.Mesh.{at}
 use Rattle.theory.specs.Choice.{seven_places}
 
--- of seven places turned by one, the first is set: the others are the first six
-pub front-set : (role : ℕ) (roles : List ℕ) → length roles ≡ most_levels
-    → set (drop (length roles - 1) roles ++ take (length roles - 1) roles) 0 role ≡ role ∷ take 6 roles
-front-set role (a ∷ b ∷ c ∷ d ∷ e ∷ f ∷ g ∷ []) l = refl
-front-set role (a ∷ b ∷ c ∷ d ∷ e ∷ f ∷ g ∷ h ∷ roles) l = absurd (omega arith)
-front-set role [] l = absurd (omega arith)
-front-set role (a ∷ []) l = absurd (omega arith)
-front-set role (a ∷ b ∷ []) l = absurd (omega arith)
-front-set role (a ∷ b ∷ c ∷ []) l = absurd (omega arith)
-front-set role (a ∷ b ∷ c ∷ d ∷ []) l = absurd (omega arith)
-front-set role (a ∷ b ∷ c ∷ d ∷ e ∷ []) l = absurd (omega arith)
-front-set role (a ∷ b ∷ c ∷ d ∷ e ∷ f ∷ []) l = absurd (omega arith)
+-- six entries, one by one, are the first six
+pub first-six : (xs : List ℕ) → 6 ≤ length xs
+    → at xs 0 ∷ at xs 1 ∷ at xs 2 ∷ at xs 3 ∷ at xs 4 ∷ at xs 5 ∷ [] ≡ take 6 xs
+first-six (a ∷ b ∷ c ∷ d ∷ e ∷ f ∷ xs) l = refl
+first-six [] l = absurd (omega arith)
+first-six (a ∷ []) l = absurd (omega arith)
+first-six (a ∷ b ∷ []) l = absurd (omega arith)
+first-six (a ∷ b ∷ c ∷ []) l = absurd (omega arith)
+first-six (a ∷ b ∷ c ∷ d ∷ []) l = absurd (omega arith)
+first-six (a ∷ b ∷ c ∷ d ∷ e ∷ []) l = absurd (omega arith)
 
 -- there are seven places
 pub places-long : (roles : List ℕ) → length (seven_places roles) ≡ most_levels

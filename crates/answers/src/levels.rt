@@ -37,12 +37,17 @@ pub fn one_more(role: usize, rest: Levels) -> Levels
     ensures { result ≡ one_more role rest }
 {
     let left = rest.left;
-    let mut roles = rest.roles;
-    roles.rotate_right(1); // the last place is free
-    roles[0] = role as u8;
     Levels {
         levels: rest.levels + 1,
         left,
-        roles,
+        roles: [
+            role as u8,
+            rest.roles[0],
+            rest.roles[1],
+            rest.roles[2],
+            rest.roles[3],
+            rest.roles[4],
+            rest.roles[5],
+        ],
     }
 }

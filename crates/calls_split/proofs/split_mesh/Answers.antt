@@ -1,6 +1,8 @@
 -- `calls_split::split_mesh` meets its contract: what the sizes or `judge` refuse is refused, and else the numbers of
 -- the edge vertices are those of the splitting, so that it is the splitting that is written.
+use native.Mathlib.Omega.{arith}
 use mathlib.Core.Path.{◌≡◌, ◌∙◌}
+use Rattle.std.proofs.lemmas.Grind.{common_steps}
 use Rattle.std.proofs.Common.{Err}
 use Rattle.calls_split.proofs.SplitMesh.{refusing-sizes, judgeable, numberable, writable, countable, splittable}
 use Rattle.calls_split.proofs.SplitMesh.{refusing, accepting}
@@ -9,7 +11,7 @@ use Rattle.calls_split.proofs.split_mesh.Goals as goal
 -- what is returned there is what the sizes came to
 pub returns-in_err-sized : goal.returns-in_err-sized
 returns-in_err-sized c =
-    let refused : c.args.sized ≡ Err c.in_err-sized.field-0.0 = cc in
+    let refused : c.args.sized ≡ Err c.in_err-sized.field-0.0 = grind (arith, common_steps) in
     refusing-sizes c.requires _ refused c.from_residual.ensures.1
 
 pub judge-requires : goal.judge-requires

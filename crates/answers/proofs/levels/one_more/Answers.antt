@@ -1,17 +1,15 @@
--- `answers::levels::one_more` meets its contract: the places are turned by one, and the first is set.
+-- `answers::levels::one_more` meets its contract: the six entries that it takes are the first six.
+use native.Mathlib.Omega.{arith}
 use Prim.Native.Nat.{ℕ, ◌+◌}
-use mathlib.Core.Path.{ap, ◌∙◌}
-use mathlib.Core.List.{List}
-use lib.ListN.{set}
+use mathlib.Core.Path.{ap}
+use mathlib.Core.List.{List, ◌∷◌}
 use Rattle.answers.specs.declared.levels.Levels.{Levels}
-use Rattle.answers.proofs.Places.{front-set}
+use Rattle.answers.proofs.Places.{first-six}
 use Rattle.answers.proofs.levels.one_more.Goals as goal
 
--- one level more, in these roles
-abbrev more : Levels → List ℕ → Levels
-more rest roles = record { levels = rest.levels + 1; left = rest.left; roles = roles }
+-- one level more, with the roles after the new one
+abbrev more : ℕ → Levels → List ℕ → Levels
+more role rest others = record { levels = rest.levels + 1; left = rest.left; roles = role ∷ others }
 
 pub returns : goal.returns
-returns c = let rest = c.args.rest in
-    ap (λ roles. more rest (set roles 0 c.args.role)) c.rotate_right.ensures.after
-    ∙ ap (more rest) (front-set c.args.role rest.roles c.requires.places)
+returns c = ap (more c.args.role c.args.rest) (first-six c.args.rest.roles (omega (arith, c.requires.places)))

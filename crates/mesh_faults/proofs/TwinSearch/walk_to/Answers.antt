@@ -1,3 +1,4 @@
+use Prim.Native.Nat.{◌<◌}
 use native.Mathlib.Omega.{arith}
 use mathlib.Core.Path.{◌≡◌, ◌∙◌, ap}
 use Rattle.theory.specs.Mesh.{at}
@@ -23,14 +24,18 @@ linked c =
     c.at-x-in-loop-x.ensures
     ∙ ap (λ ring. at ring.now c.loop-x.x) (c.meet-found.ensures.same.ring ∙ c.loop-x.invariant.same.ring)
 
+-- in the loop x is before h
+before_last : (c : goal.After-at-x-in-loop-x) → c.loop-x.x < c.args.h
+before_last c = omega arith
+
 pub loop-x-smaller : goal.loop-x-smaller
-loop-x-smaller c = omega (arith, linked c, next-above c.requires c.loop-x.invariant.on c.loop-x-test.true)
+loop-x-smaller c = omega (arith, linked c, next-above c.requires c.loop-x.invariant.on (before_last c))
 
 -- x is met, and the walk goes on
 pub loop-x-preserved : goal.loop-x-preserved
 loop-x-preserved c =
     let S = c.loop-x.invariant in
-    let l = c.loop-x-test.true in
+    let l = before_last c in
     rw (linked c)
     (record {
       same = same-more S.same c.meet-found.ensures.same;
