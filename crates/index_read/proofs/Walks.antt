@@ -1,13 +1,14 @@
 -- Laws of going over the runs of a text, one after the other: what each makes of the corners so far, and what the whole
 -- text says in the end.
-use Prim.Native.Nat.{ℕ, ◌+◌, ◌-◌, ◌/◌, ◌≤◌, ◌<◌}
+use Prim.Native.Nat.{ℕ, suc, ◌+◌, ◌-◌, ◌/◌, ◌≤◌, ◌<◌}
 use native.Mathlib.Omega.{arith}
 use mathlib.Core.Path.{◌≡◌, refl, sym, ◌∙◌}
 use mathlib.Core.Bool.{Bool, true, false, ◌||◌}
 use mathlib.Core.Option.{none, some}
 use mathlib.Core.List.{List, [], ◌∷◌, ◌++◌}
 use lib.ListN.{length, length-append, drop, drop_of_length-le}
-use lib.Dec.{eqb}
+use borrow.Author.Tests.{ltb-true}
+use lib.Dec.{ltb, eqb}
 use Rattle.theory.specs.Index.{runs, Said, corner, close, wrong, face_after, corners_said, faces, wrong_at, faces_from}
 use Rattle.theory.specs.Index.{text_says}
 use Rattle.theory.proofs.Index.{corners-longer, text-whole}
@@ -26,6 +27,25 @@ one-corner (corner n) = omega arith
 one-corner close = omega arith
 one-corner wrong = omega arith
 
+-- after a right run the present face has three corners at most
+face-within : (said : Said) (face next : ℕ) → face_after face said ≡ some next → next ≤ 3
+unfolding face_after
+face-within (corner n) face next e = go (ltb face 3) refl
+  where
+    go : (b : Bool) → ltb face 3 ≡ b → next ≤ 3
+    go true f =
+        let s : suc face ≡ next = cc in
+        omega (arith, s, ltb-true face 3 f)
+    go false f = let z : ◌≡◌ {A = ℕ} 0 1 = cc in absurd (omega arith)
+face-within close face next e = go (eqb face 3) refl
+  where
+    go : (b : Bool) → eqb face 3 ≡ b → next ≤ 3
+    go true f =
+        let s : 0 ≡ next = cc in
+        omega (arith, s)
+    go false f = let z : ◌≡◌ {A = ℕ} 0 1 = cc in absurd (omega arith)
+face-within wrong face next e = let z : ◌≡◌ {A = ℕ} 0 1 = cc in absurd (omega arith)
+
 -- ---- the runs so far
 
 -- up to a place, where a run starts or the text ends, all runs are right, with these corners, of which the last `face`
@@ -34,6 +54,7 @@ pub record Walk (text so_far : List ℕ) (at corners face : ℕ) : Type 0 where
   pub same : text_says text ≡ faces_from (length text) so_far face (runs false at (drop at text))
   pub count : length so_far ≡ corners
   pub few : corners ≤ at
+  pub within : face ≤ 3
   pub inside : at ≤ length text
   pub starts : at < length text → goes_on text at ≡ true
 
@@ -44,6 +65,7 @@ walk-begun N = record {
   same = cc N.passed.same;
   count = refl;
   few = omega arith;
+  within = omega arith;
   inside = N.passed.within;
   starts = N.starts;
 }
@@ -120,6 +142,7 @@ module _ {text so_far : List ℕ} {at corners face : ℕ} {run : Run} {end next 
           same = rw (sym N.passed.same) one_more;
           count = simp length-append (omega (arith, W.count, count));
           few = omega (arith, W.few, count, one-corner (said_by run), onward);
+          within = face-within (said_by run) face next M.after;
           inside = N.passed.within;
           starts = N.starts;
         }

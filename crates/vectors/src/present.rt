@@ -10,7 +10,7 @@ const ENTRIES: usize = 49155;
 
 // The present mesh, which is the first `entries` entries of `list`, and how buffers are lent. (`list` is an array and no
 // Vec: `vectors` takes no heap, as the calls take none.)
-#[derive(Drop)]
+#[derive(Clone, Copy)]
 pub struct Present {
     pub vertices: u64,
     list: [u16; ENTRIES],
