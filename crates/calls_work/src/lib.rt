@@ -15,7 +15,9 @@ pub fn shortest(first: usize, others: &[usize]) -> usize
 }
 
 // Sets every entry of four buffers to 0. Each number of buffers has its function, and no list of buffers is taken: the
-// kit does not prove a caller that puts buffers which it was lent into one array.
+// kit does not prove a caller that puts buffers which it was lent into one array. They are compiled into their callers,
+// which would have to put up to ten buffers on the stack to call them.
+#[inline(always)]
 fn clear_four(a: &mut [u16], b: &mut [u16], c: &mut [u16], d: &mut [u16])
     ensures { (a.new ∷ b.new ∷ c.new ∷ d.new ∷ [])
         ≡ map zeros (a.old ∷ b.old ∷ c.old ∷ d.old ∷ []) }
@@ -27,6 +29,7 @@ fn clear_four(a: &mut [u16], b: &mut [u16], c: &mut [u16], d: &mut [u16])
 }
 
 // Of five.
+#[inline(always)]
 pub fn clear_five(a: &mut [u16], b: &mut [u16], c: &mut [u16], d: &mut [u16], e: &mut [u16])
     ensures { (a.new ∷ b.new ∷ c.new ∷ d.new ∷ e.new ∷ [])
         ≡ map zeros (a.old ∷ b.old ∷ c.old ∷ d.old ∷ e.old ∷ []) }
@@ -39,6 +42,7 @@ pub fn clear_five(a: &mut [u16], b: &mut [u16], c: &mut [u16], d: &mut [u16], e:
 }
 
 // Of nine.
+#[inline(always)]
 pub fn clear_nine(
     a: &mut [u16],
     b: &mut [u16],
@@ -60,6 +64,7 @@ pub fn clear_nine(
 }
 
 // Of ten.
+#[inline(always)]
 pub fn clear_ten(
     a: &mut [u16],
     b: &mut [u16],

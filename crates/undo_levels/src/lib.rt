@@ -6,10 +6,12 @@
 
 ghost use Rattle.std.specs.Prelude.{◌*◌, take};
 ghost use Rattle.undo_role.specs.Buffers.{buffers};
+ghost use Rattle.undo_level.specs.Level.{LevelLent, LevelTried};
 ghost use Rattle.undo_levels.specs.Levels.{LevelsLent, LevelsUndone};
 
 use answers::counts::{Counts, coarse_counts};
 use answers::levels::{Levels, one_more, stop};
+use answers::taken::RoleRead;
 use mesh_rings::mesh::Mesh;
 use undo_level::undo_least;
 
@@ -41,13 +43,19 @@ pub fn undo_levels(
     }
     let vertices = counts.vertices;
     let triangles = counts.triangles;
-    let mesh = Mesh {
+    let Some(reading) = one_level(
         vertices,
         triangles,
-        list: &list[..3 * triangles],
-    };
-    let Some(reading) = undo_least(
-        mesh, other, rows, ring, marks, coarse, numbers, map, faces, table,
+        &list[..3 * triangles],
+        other,
+        rows,
+        ring,
+        marks,
+        coarse,
+        numbers,
+        map,
+        faces,
+        table,
     ) else {
         return stop(counts, list, out); // no role has a reading
     };
@@ -72,4 +80,37 @@ pub fn undo_levels(
         table,
     );
     one_more(reading.role, rest)
+}
+
+// One level, by `undo_least`. It is a call of its own, so that what it takes of the stack is free again for the levels
+// after it, and takes the mesh in parts, which are handed on without a copy: `undo_levels` has little on the stack at
+// each level.
+#[inline(never)]
+fn one_level(
+    vertices: usize,
+    triangles: usize,
+    list: &[u16],
+    other: &mut [u16],
+    rows: &mut [u16],
+    ring: &mut [u16],
+    marks: &mut [u16],
+    coarse: &mut [u16],
+    numbers: &mut [u16],
+    map: &mut [u16],
+    faces: &mut [u16],
+    table: &mut [u16],
+) -> Option<RoleRead>
+    requires { LevelLent vertices triangles list.now
+        (buffers other.old rows.old ring.old marks.old coarse.old numbers.old map.old faces.old
+        table.old) }
+    ensures { LevelTried vertices triangles list.now coarse.new ring.new result }
+{
+    let mesh = Mesh {
+        vertices,
+        triangles,
+        list,
+    };
+    undo_least(
+        mesh, other, rows, ring, marks, coarse, numbers, map, faces, table,
+    )
 }

@@ -18,7 +18,9 @@ use undo_role::try_role;
 const ROLES: usize = 4;
 
 // Tries the roles from 0 to 3 and stops at the first that has a reading, which is left in `coarse`, `map` and `faces`.
-// A role that has one by the old rule alone is remembered, and answered where no role has a reading.
+// A role that has one by the old rule alone is remembered, and answered where no role has a reading. It is compiled into
+// its callers: as a call of its own it would copy the mesh and the covering mesh once more to the stack.
+#[inline(always)]
 pub fn least_role(
     mesh: Mesh<'_>,
     cover: Covering<'_>,
